@@ -6,9 +6,10 @@ use mathlib.Core.List.{List}
 use Prim.Native.Nat.{ℕ}
 use native.Mathlib.Omega.{arith}
 use lib.ListN.{length, drop}
+use Rattle.bytes.specs.Runs.{all-are}
 use Rattle.keys.specs.declared.section.Section.{Section}
 use Rattle.std.specs.declared.result.Result.the-variants.{Ok}
-use Rattle.keys.specs.Names.{name-in, all-zeros, is-name, is-section, filled, nameless}
+use Rattle.keys.specs.Names.{name-in, is-name, is-section, filled, nameless}
 use Rattle.keys.specs.Orders.{text-le}
 use Rattle.keys.specs.Sections.{section-le, section-by, section-made, section-of}
 use Rattle.keys.proofs.Names.{filled-le}
@@ -23,7 +24,7 @@ section-path a b p = λ i. record {
 pub section-long : (a : Section) → length (a .bytes) ≡ 8
 section-long a = let h = a .named in grind arith
 
-section-zeros : (a : Section) → all-zeros (drop (length (name-in (a .bytes))) (a .bytes)) ≡ true
+section-zeros : (a : Section) → all-are 0 (drop (length (name-in (a .bytes))) (a .bytes)) ≡ true
 section-zeros a = let h = a .named in grind arith
 
 -- sections are in the order of their bytes

@@ -4,6 +4,7 @@ use mathlib.Core.List.{List, [], _∷_, _++_}
 use Prim.Native.Nat.{ℕ, _-_}
 use lib.Dec.{leb, eqb}
 use lib.ListN.{length, replicate, drop}
+use Rattle.bytes.specs.Runs.{up-to, all-are}
 
 -- a name has one to eight characters
 abbrev pub longest-name : ℕ
@@ -26,17 +27,12 @@ filled name = name ++ replicate (longest-name - length name) 0
 
 -- the name that eight bytes hold: what stands before the first zero
 abbrev pub name-in : List ℕ → List ℕ
-name-in [] = []
-name-in (c ∷ cs) = cond (eqb c 0) [] (c ∷ name-in cs)
-
-abbrev pub all-zeros : List ℕ → Bool
-all-zeros [] = true
-all-zeros (c ∷ cs) = eqb c 0 && all-zeros cs
+name-in bytes = up-to 0 bytes
 
 -- eight bytes that hold a name, and zeros alone after it
 abbrev pub is-section : List ℕ → Bool
 is-section bytes =
-    (eqb (length bytes) longest-name && is-name (name-in bytes)) && all-zeros (drop (length (name-in bytes)) bytes)
+    (eqb (length bytes) longest-name && is-name (name-in bytes)) && all-are 0 (drop (length (name-in bytes)) bytes)
 
 -- the bytes of the name A
 abbrev pub nameless : List ℕ

@@ -9,7 +9,7 @@ use super::names::LONGEST_NAME;
 use super::names::fill;
 use super::names::is_name;
 use super::names::is_section;
-use super::names::name_of;
+use bytes::before;
 
 impl Section {
     // The section of this name, where it is one.
@@ -25,7 +25,7 @@ impl Section {
     pub fn name(&self) -> &[u8]
         ensures { λ r. ⌜ now r ≡ name-in (now (self .entry) .bytes) ⌝ }
     {
-        name_of(&self.bytes)
+        before(&self.bytes, 0)
     }
 }
 

@@ -2,7 +2,9 @@
 ghost use mathlib.Core.Path.{_≡_};
 ghost use Prim.Native.Nat.{_≤_};
 ghost use lib.ListN.{length};
-ghost use Rattle.keys.specs.Names.{is-character, all-characters, is-name, all-zeros, is-section, filled, name-in};
+ghost use Rattle.keys.specs.Names.{is-character, all-characters, is-name, is-section, filled};
+use bytes::are_all;
+use bytes::before;
 
 pub const LONGEST_NAME: usize = 8;
 
@@ -29,48 +31,18 @@ pub fn is_name(name: &[u8]) -> bool
     1 <= name.len() && name.len() <= LONGEST_NAME && all_characters(name)
 }
 
-fn all_zeros(bytes: &[u8]) -> bool
-    ensures { λ r. ⌜ r ≡ all-zeros (now (bytes .entry)) ⌝ }
-{
-    for byte in bytes {
-        if *byte != 0 {
-            return false;
-        }
-    }
-    true
-}
-
-// How many bytes stand before the first zero.
-pub fn name_length(bytes: &[u8]) -> usize
-    ensures { λ r. ⌜ r ≡ length (name-in (now (bytes .entry))) ⌝ }
-{
-    for (i, byte) in bytes.iter().enumerate() {
-        if *byte == 0 {
-            return i;
-        }
-    }
-    bytes.len()
-}
-
-// The bytes before the first zero.
-pub fn name_of(bytes: &[u8]) -> &[u8]
-    ensures { λ r. ⌜ now r ≡ name-in (now (bytes .entry)) ⌝ }
-{
-    &bytes[0..name_length(bytes)]
-}
-
 // Whether the bytes are eight that hold a name, and zeros alone after it.
 pub fn is_section(bytes: &[u8]) -> bool
     ensures { λ r. ⌜ r ≡ is-section (now (bytes .entry)) ⌝ }
 {
-    let name = name_of(bytes);
+    let name = before(bytes, 0);
     if bytes.len() != LONGEST_NAME {
         return false;
     }
     if !is_name(name) {
         return false;
     }
-    all_zeros(&bytes[name.len()..])
+    are_all(&bytes[name.len()..], 0)
 }
 
 // The eight bytes of a name.

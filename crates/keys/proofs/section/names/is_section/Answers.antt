@@ -6,4 +6,4 @@ use Rattle.keys.proofs.section.names.is_section.Needs as need
 
 pub returns : need.returns
 returns c =
-    c .all-zeros .ensures ∙ section-by-rest (c .args .bytes .now) (c .name-of-name .result .now) (c .name-of-name .ensures) (omega arith) (sym (c .if-not-is-name .ensures tt))
+    c .are-all .ensures ∙ section-by-rest (c .args .bytes .now) (c .before-name .result .now) (c .before-name .ensures) (omega arith) (sym (c .if-not-is-name .ensures tt))

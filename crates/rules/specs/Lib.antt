@@ -1,0 +1,11 @@
+pub mod Words
+pub mod Kinds
+pub mod Plain
+pub mod States
+pub mod Queues
+pub mod Changes
+pub mod Moves
+pub mod Carries
+pub mod Calls
+pub mod ReadOff
+pub mod Laws

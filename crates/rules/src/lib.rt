@@ -1,0 +1,8 @@
+// The rules of the register: what its calls answer and leave, in specs/; the words that code and rules share, here.
+mod carried;
+mod mode;
+mod note;
+
+pub use carried::Carried;
+pub use mode::Mode;
+pub use note::Note;

@@ -1,0 +1,10 @@
+pub mod Order
+pub mod Sets
+pub mod Weights
+pub mod Times
+pub mod Befores
+pub mod Trees
+pub mod Goods
+pub mod Later
+pub mod Joins
+pub mod Children

@@ -18,6 +18,7 @@ use Rattle.rules.specs.Plain.{set-before}
 use Rattle.rules.specs.States.{Waiter}
 use Rattle.rules.specs.Queues.{numbered}
 use Rattle.rules.specs.Carries.{says}
+use Rattle.rules.proofs.Bools.{bool-case, both-true, or-false, not-and}
 use Rattle.rules.proofs.Order.{same-eq}
 use Rattle.rules.proofs.Weights as weights
 use Rattle.rules.proofs.Times.{numbered-within, ascends-at, told}
@@ -34,21 +35,6 @@ told-by-enter w false old = refl
 told-by-withdraw : {K T : Type 0} (w : Kinds K T) (b old : Bool) → told w (cond b (Some false) None) old ≡ (not b && old)
 told-by-withdraw w true old = refl
 told-by-withdraw w false old = refl
-
-not-and : (b : Bool) → (not b && b) ≡ false
-not-and true = refl
-not-and false = refl
-
-cond-case : (b : Bool) (P : Bool → Type 0) → P true → P false → P b
-cond-case true P p q = p
-cond-case false P p q = q
-
-both-true : {a b : Bool} → a ≡ true → b ≡ true → (a && b) ≡ true
-both-true {a = a} {b = b} p q = grind arith
-
-or-false : (b : Bool) → (b || false) ≡ b
-or-false true = refl
-or-false false = refl
 
 abbrev pub waiter : ℕ → Mode → Waiter
 waiter t m = record { number = t; mode = m }
@@ -142,9 +128,9 @@ module _ {K T : Type 0} (w : Kinds K T) (l : Lawful w) (rs : List (Request K)) (
         was-both : (x : K) → R x ≡ true → was w rs u x ≡ (same w x k || same w x j)
         was-both x r = was-entered x r ∙ ap (λ v. same w x k || v) (g .1 x r)
         greater-here : R (greater w j k) ≡ true
-        greater-here = cond-case (w .le j k) (λ v. R (cond v k j) ≡ true) here (g .0)
+        greater-here = bool-case (w .le j k) (λ v. R (cond v k j) ≡ true) here (g .0)
         lesser-here : R (lesser w j k) ≡ true
-        lesser-here = cond-case (w .le j k) (λ v. R (cond v j k) ≡ true) (g .0) here
+        lesser-here = bool-case (w .le j k) (λ v. R (cond v j k) ≡ true) (g .0) here
     child-entered (node f s tally q a b) g =
         node-joins w rs R u f s tally (w .joined tally (w .weighed k)) q (waiter t Between) a b h
         (ap (λ v. w .joined v (w .weighed k)) (g .0 .weighs) ∙ sym tally-entered)

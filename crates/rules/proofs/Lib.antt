@@ -1,3 +1,4 @@
+pub mod Bools
 pub mod Order
 pub mod Sets
 pub mod Weights
@@ -8,3 +9,5 @@ pub mod Goods
 pub mod Later
 pub mod Joins
 pub mod Children
+pub mod Insides
+pub mod Alter

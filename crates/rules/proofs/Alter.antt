@@ -1,0 +1,104 @@
+-- A change at one place of a tree, and what it leaves of the whole. Rests on Insides.
+use mathlib.Core.Path.{_≡_, refl, sym, ap, subst, _∙_}
+use mathlib.Core.Bool.{Bool, true, false, cond, not, _&&_, _||_, true≢false}
+use mathlib.Core.List.{List, [], _∷_}
+use Prim.Native.Nat.{ℕ, zero, suc, _≤_, _<_}
+use native.Mathlib.Omega.{arith}
+use lib.Dec.{eqb}
+use Rattle.std.specs.declared.option.Option.{Option}
+use Rattle.std.specs.declared.option.Option.the-variants.{Some, None}
+use Rattle.requests.specs.declared.request.Request.{Request}
+use Rattle.rules.specs.Kinds.{Kinds}
+use Rattle.rules.specs.States.{Slot, Place, Waiter, leads}
+use Rattle.rules.proofs.Bools.{or-first, or-second, or-neither, false-unless}
+use Rattle.rules.proofs.Trees.{Tree, bare, leaf, node, slot-of, inside, drawn-place, Drawn, drawn-frame}
+use Rattle.rules.proofs.Goods.{below, Over, left-of, right-of, Place-good, Good}
+use Rattle.rules.proofs.Later.{left-in, right-in}
+use Rattle.rules.proofs.Insides.{Maker, inside-cases, inside-maker, inside-over, makers-apart}
+
+-- the tree with the place numbered p changed by g
+abbrev pub alter : {K T : Type 0} → ℕ → (Tree K T → Tree K T) → Tree K T → Tree K T
+alter p g bare = bare
+alter p g (leaf k) = leaf k
+alter p g (node i s t q a b) = cond (eqb i p) (g (node i s t q a b)) (node i s t q (alter p g a) (alter p g b))
+
+pub alter-outside : {K T : Type 0} (p : ℕ) (g : Tree K T → Tree K T) (x : Tree K T) → inside p x ≡ false → alter p g x ≡ x
+alter-outside p g bare e = refl
+alter-outside p g (leaf k) e = refl
+alter-outside p g (node i s t q a b) e =
+    let one = alter-outside p g a (grind arith) in
+    let two = alter-outside p g b (grind arith) in
+    let other : eqb i p ≡ false = grind arith in
+    rw (other, one, two)
+
+module _ {K T : Type 0} (w : Kinds K T) (rs : List (Request K)) (place new-place : ℕ → Option (Place K T)) (queue new-queue : ℕ → List Waiter) where
+  -- place and queue of a number are as they were
+  abbrev pub Kept : ℕ → Type 0
+  Kept i = (new-place i ≡ place i) × (new-queue i ≡ queue i)
+
+  -- what a change at place p, in the region R, leaves of a tree x and makes of it, y
+  pub record Changed (p : ℕ) (R : K → Bool) (t : ℕ) (x y : Tree K T) : Type 0 where
+    pub good : Good w rs R t y
+    pub drawn : Drawn new-place new-queue y
+    pub slot : slot-of y ≡ slot-of x
+    pub over : (lo : ℕ) → Over lo x → Over lo y
+    -- places with lower numbers, and those whose makers' keys lie elsewhere, are as they were
+    pub low : (i : ℕ) → i < p → Kept i
+    pub far : (i : ℕ) → (Maker w rs R i → ⊥) → Kept i
+    -- and so are all that do not hang in the new tree; none is lost
+    pub out : (i : ℕ) → inside i y ≡ false → (inside i x ≡ false) × Kept i
+
+  module _ (p : ℕ) (g : Tree K T → Tree K T)
+      (local : (R : K → Bool) (t : ℕ) (s : K) (tally : T) (q : List Waiter) (a b : Tree K T) → Good w rs R t (node p s tally q a b) → Drawn place queue (node p s tally q a b) → Changed p R t (node p s tally q a b) (g (node p s tally q a b))) where
+    in-left : (R : K → Bool) (t : ℕ) (i : ℕ) (s : K) (tally : T) (q : List Waiter) (a b c : Tree K T)
+        → Good w rs R t (node i s tally q a b) → Drawn place queue (node i s tally q a b) → i < p
+        → Changed p (left-of w R s) (below q t) a c → Changed p R t (node i s tally q a b) (node i s tally q c b)
+    in-left R t i s tally q a b c gd d lt ch = record {
+      good = (gd .0, (ch .over i (gd .1 .0), gd .1 .1), ch .good, gd .3);
+      drawn = (ch .low i lt .0 ∙ d .0 ∙ ap (λ x. Some (record { split = s; left = x; right = slot-of b; tally = tally })) (sym (ch .slot)), ch .low i lt .1 ∙ d .1, ch .drawn, drawn-frame place new-place queue new-queue b (λ j h. ch .far j (λ m. makers-apart w rs R s j m (inside-maker w rs (right-of w R s) (below q t) b j (gd .3) h))) (d .3));
+      slot = refl;
+      over = λ lo o. o;
+      low = ch .low;
+      far = λ j no. ch .far j (λ m. no (m .0, m .1, left-in w R s (m .0) (m .2)));
+      out = λ j h.
+          let rest = or-second (eqb j i) (inside j c || inside j b) h in
+          let o = ch .out j (or-first (inside j c) (inside j b) rest) in
+          (or-neither (eqb j i) (inside j a || inside j b) (or-first (eqb j i) (inside j c || inside j b) h) (or-neither (inside j a) (inside j b) (o .0) (or-second (inside j c) (inside j b) rest)), o .1)
+    }
+
+    in-right : (R : K → Bool) (t : ℕ) (i : ℕ) (s : K) (tally : T) (q : List Waiter) (a b c : Tree K T)
+        → Good w rs R t (node i s tally q a b) → Drawn place queue (node i s tally q a b) → i < p
+        → Changed p (right-of w R s) (below q t) b c → Changed p R t (node i s tally q a b) (node i s tally q a c)
+    in-right R t i s tally q a b c gd d lt ch = record {
+      good = (gd .0, (gd .1 .0, ch .over i (gd .1 .1)), gd .2, ch .good);
+      drawn = (ch .low i lt .0 ∙ d .0 ∙ ap (λ x. Some (record { split = s; left = slot-of a; right = x; tally = tally })) (sym (ch .slot)), ch .low i lt .1 ∙ d .1, drawn-frame place new-place queue new-queue a (λ j h. ch .far j (λ m. makers-apart w rs R s j (inside-maker w rs (left-of w R s) (below q t) a j (gd .2) h) m)) (d .2), ch .drawn);
+      slot = refl;
+      over = λ lo o. o;
+      low = ch .low;
+      far = λ j no. ch .far j (λ m. no (m .0, m .1, right-in w R s (m .0) (m .2)));
+      out = λ j h.
+          let rest = or-second (eqb j i) (inside j a || inside j c) h in
+          let o = ch .out j (or-second (inside j a) (inside j c) rest) in
+          (or-neither (eqb j i) (inside j a || inside j b) (or-first (eqb j i) (inside j a || inside j c) h) (or-neither (inside j a) (inside j b) (or-first (inside j a) (inside j c) rest) (o .0)), o .1)
+    }
+
+    -- a change that is right at the place itself is right in the whole tree
+    pub altered : (R : K → Bool) (t : ℕ) (x : Tree K T) → Good w rs R t x → Drawn place queue x → inside p x ≡ true → Changed p R t x (alter p g x)
+    altered R t bare gd d e = absurd (true≢false (sym e))
+    altered R t (leaf k) gd d e = absurd (true≢false (sym e))
+    altered R t (node i s tally q a b) gd d e =
+        go (altered (left-of w R s) (below q t) a (gd .2) (d .2)) (altered (right-of w R s) (below q t) b (gd .3) (d .3)) (eqb i p) refl
+      where
+        go : (inside p a ≡ true → Changed p (left-of w R s) (below q t) a (alter p g a)) → (inside p b ≡ true → Changed p (right-of w R s) (below q t) b (alter p g b))
+            → (c : Bool) → eqb i p ≡ c → Changed p R t (node i s tally q a b) (alter p g (node i s tally q a b))
+        go one two true f =
+            let here : p ≡ i = grind arith in
+            let there = subst (λ j. Good w rs R t (node j s tally q a b) → Drawn place queue (node j s tally q a b) → Changed p R t (node j s tally q a b) (g (node j s tally q a b))) here (local R t s tally q a b) in
+            rw f (there gd d)
+        go one two false f =
+            inside-cases w rs p i s tally q a b e
+            (λ h. let z : eqb i p ≡ true = grind arith in absurd (true≢false (sym z ∙ f)))
+            (λ h. let lone : inside p b ≡ false = false-unless (inside p b) (λ k. makers-apart w rs R s p (inside-maker w rs (left-of w R s) (below q t) a p (gd .2) h) (inside-maker w rs (right-of w R s) (below q t) b p (gd .3) k)) in
+                  rw (f, alter-outside p g b lone) (in-left R t i s tally q a b (alter p g a) gd d (inside-over w rs (left-of w R s) (below q t) a i p (gd .2) (gd .1 .0) h) (one h)))
+            (λ h. let lone : inside p a ≡ false = false-unless (inside p a) (λ k. makers-apart w rs R s p (inside-maker w rs (left-of w R s) (below q t) a p (gd .2) k) (inside-maker w rs (right-of w R s) (below q t) b p (gd .3) h)) in
+                  rw (f, alter-outside p g a lone) (in-right R t i s tally q a b (alter p g b) gd d (inside-over w rs (right-of w R s) (below q t) b i p (gd .3) (gd .1 .1) h) (two h)))

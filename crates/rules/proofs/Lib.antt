@@ -11,3 +11,4 @@ pub mod Joins
 pub mod Children
 pub mod Insides
 pub mod Alter
+pub mod Pairs

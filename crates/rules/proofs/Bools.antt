@@ -1,6 +1,6 @@
 -- Small facts about truth values that searches in large contexts do not reach. Assumes nothing.
-use mathlib.Core.Path.{_≡_, refl}
-use mathlib.Core.Bool.{Bool, true, false, not, _&&_, _||_, true≢false}
+use mathlib.Core.Path.{_≡_, refl, sym}
+use mathlib.Core.Bool.{Bool, true, false, cond, not, _&&_, _||_, true≢false}
 
 pub bool-case : (b : Bool) (P : Bool → Type 0) → P true → P false → P b
 bool-case true P p q = p
@@ -13,6 +13,19 @@ both-true {a = false} {b = b} p q = p
 pub or-cases : {P : Type 0} (a b : Bool) → (a || b) ≡ true → (a ≡ true → P) → (b ≡ true → P) → P
 or-cases true b e f g = f refl
 or-cases false b e f g = g e
+
+pub or-left : (a b : Bool) → a ≡ true → (a || b) ≡ true
+or-left true b e = refl
+or-left false b e = absurd (true≢false (sym e))
+
+pub or-right : (a b : Bool) → b ≡ true → (a || b) ≡ true
+or-right true b e = refl
+or-right false b e = e
+
+-- either of two facts carried over, by a truth value
+pub bool-map : {P P′ Q Q′ : Type 0} (b : Bool) → (P → P′) → (Q → Q′) → cond b P Q → cond b P′ Q′
+bool-map true f g h = f h
+bool-map false f g h = g h
 
 pub or-false : (b : Bool) → (b || false) ≡ b
 or-false true = refl

@@ -10,5 +10,8 @@ pub mod Later
 pub mod Joins
 pub mod Children
 pub mod Insides
+pub mod Pends
 pub mod Alter
 pub mod Pairs
+pub mod Puts
+pub mod Effects

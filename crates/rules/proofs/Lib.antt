@@ -15,3 +15,4 @@ pub mod Alter
 pub mod Pairs
 pub mod Puts
 pub mod Effects
+pub mod Hangs

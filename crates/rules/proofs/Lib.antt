@@ -16,3 +16,10 @@ pub mod Pairs
 pub mod Puts
 pub mod Effects
 pub mod Hangs
+pub mod Sames
+pub mod Touches
+pub mod Meets
+pub mod Shares
+pub mod Shows
+pub mod Stepped
+pub mod Locals

@@ -1,5 +1,6 @@
 -- The plain set just before a request, by the request's number. Rests on Times.
 use mathlib.Core.Path.{_≡_, refl, sym, ap, _∙_}
+use mathlib.Core.Logic.{⊎-elim}
 use mathlib.Core.Bool.{Bool, true, false, cond, not, _&&_, _||_}
 use mathlib.Core.List.{List, [], _∷_, _++_}
 use Prim.Native.Nat.{ℕ, zero, suc, pred, _≤_, _<_}
@@ -7,6 +8,7 @@ use native.Mathlib.Omega.{arith}
 use lib.ListN.{length}
 use Rattle.std.specs.declared.option.Option.{Option}
 use Rattle.std.specs.declared.option.Option.the-variants.{Some, None}
+use Rattle.std.proofs.shelf.Tests.{cases-lt}
 use Rattle.requests.specs.declared.request.Request.{Request}
 use Rattle.requests.specs.declared.request.Request.the-variants.{Enter, Withdraw, LookUp, Count}
 use Rattle.rules.specs.Kinds.{Kinds, Lawful, same}
@@ -26,10 +28,13 @@ module _ {K T : Type 0} (w : Kinds K T) where
   abbrev pub weight-before : (K → Bool) → List (Request K) → ℕ → T
   weight-before test rs t = weight-of w test (set-before w rs t)
 
+  -- request i changes nothing of a key
+  abbrev pub Unmoved : List (Request K) → ℕ → K → Type 0
+  Unmoved rs i k = was rs (suc i) k ≡ was rs i k
+
   -- the requests from a up to and without b change no key that passes the test
   abbrev pub Still : List (Request K) → (K → Bool) → ℕ → ℕ → Type 0
-  Still rs test a b =
-      (i : ℕ) (r : Request K) → a ≤ i → i < b → numbered rs i ≡ Some r → (k : K) → test k ≡ true → says w k r ≡ None
+  Still rs test a b = (i : ℕ) → a ≤ i → i < b → (k : K) → test k ≡ true → Unmoved rs i k
 
 module _ {K T : Type 0} (w : Kinds K T) (l : Lawful w) (rs : List (Request K)) where
   pub set-next : (t : ℕ) (r : Request K) → numbered rs t ≡ Some r → set-before w rs (suc t) ≡ done w r (set-before w rs t)
@@ -41,24 +46,28 @@ module _ {K T : Type 0} (w : Kinds K T) (l : Lawful w) (rs : List (Request K)) w
   was-next zero r k e = let h = numbered-within rs zero r e in absurd (omega arith)
   was-next (suc m) r k e = times.present-next w l rs m r k e
 
-  pub was-still : (test : K → Bool) (a b : ℕ) → 0 < a → a ≤ b → b ≤ suc (length rs) → Still w rs test a b → (k : K) → test k ≡ true → was w rs b k ≡ was w rs a k
-  was-still test zero b z h n q k t = absurd (omega arith)
-  was-still test (suc a) zero z h n q k t = absurd (omega arith)
-  was-still test (suc a) (suc b) z h n q k t =
-      times.present-quiet w l rs test a b (omega arith) (omega arith) (λ i r u v. q i r (omega arith) (omega arith)) k t
+  -- a request that says nothing of a key leaves it
+  pub unmoved-silent : (t : ℕ) (r : Request K) (k : K) → numbered rs t ≡ Some r → says w k r ≡ None → Unmoved w rs t k
+  unmoved-silent t r k e none = was-next t r k e ∙ ap (λ v. told w v (was w rs t k)) none
 
-  pub weight-still : (test : K → Bool) (a b : ℕ) → 0 < a → a ≤ b → b ≤ suc (length rs) → Still w rs test a b → weight-before w test rs b ≡ weight-before w test rs a
-  weight-still test zero b z h n q = absurd (omega arith)
-  weight-still test (suc a) zero z h n q = absurd (omega arith)
-  weight-still test (suc a) (suc b) z h n q =
-      times.weight-quiet w l rs test a b (omega arith) (omega arith) (λ i r u v. q i r (omega arith) (omega arith))
+  pub was-still : (test : K → Bool) (a b : ℕ) → a ≤ b → Still w rs test a b → (k : K) → test k ≡ true → was w rs b k ≡ was w rs a k
+  was-still test a zero h q k t = let none : 0 ≡ a = omega arith in ap (λ i. was w rs i k) none
+  was-still test a (suc b) h q k t =
+      ⊎-elim
+      (λ lt. q b (omega arith) (omega arith) k t ∙ was-still test a b (omega arith) (λ i u v. q i u (omega arith)) k t)
+      (λ ge. let all : suc b ≡ a = omega arith in ap (λ i. was w rs i k) all)
+      (cases-lt a (suc b))
+
+  pub weight-still : (test : K → Bool) (a b : ℕ) → a ≤ b → Still w rs test a b → weight-before w test rs b ≡ weight-before w test rs a
+  weight-still test a b h q =
+      weights.weight-same-keys w l test (set-before w rs b) (set-before w rs a) (times.ascends-at w l rs (pred b)) (times.ascends-at w l rs (pred a)) (λ k t. was-still test a b h q k t)
 
   -- a part of a stretch, and a smaller region
   pub still-part : (test : K → Bool) (a b c d : ℕ) → a ≤ c → d ≤ b → Still w rs test a b → Still w rs test c d
-  still-part test a b c d h n q = λ i r u v. q i r (omega arith) (omega arith)
+  still-part test a b c d h n q = λ i u v. q i (omega arith) (omega arith)
 
   pub still-within : (big small : K → Bool) (a b : ℕ) → ((k : K) → small k ≡ true → big k ≡ true) → Still w rs big a b → Still w rs small a b
-  still-within big small a b h q = λ i r u v e k t. q i r u v e k (h k t)
+  still-within big small a b h q = λ i u v k t. q i u v k (h k t)
 
   pub weight-entered : (test : K → Bool) (t : ℕ) (k : K) → numbered rs t ≡ Some (Enter k) → was w rs t k ≡ false → test k ≡ true → weight-before w test rs (suc t) ≡ w .joined (weight-before w test rs t) (w .weighed k)
   weight-entered test t k e n h =

@@ -21,8 +21,8 @@ use Rattle.rules.specs.Carries.{says}
 use Rattle.rules.proofs.Bools.{bool-case, both-true, or-false, not-and}
 use Rattle.rules.proofs.Order.{same-eq}
 use Rattle.rules.proofs.Weights as weights
-use Rattle.rules.proofs.Times.{numbered-within, ascends-at, told}
-use Rattle.rules.proofs.Befores.{was, weight-before, Still, was-next, was-still, weight-still, weight-entered, weight-withdrawn}
+use Rattle.rules.proofs.Times.{ascends-at, told}
+use Rattle.rules.proofs.Befores.{was, weight-before, Unmoved, Still, unmoved-silent, was-next, was-still, weight-still, weight-entered, weight-withdrawn}
 use Rattle.rules.proofs.Trees.{Tree, bare, leaf, node}
 use Rattle.rules.proofs.Goods.{left-of, right-of, Mode-fits, Waiter-fits, Place-good, Good}
 use Rattle.rules.proofs.Later.{left-in, left-side, right-in, right-side, good-later}
@@ -75,32 +75,28 @@ module _ {K T : Type 0} (w : Kinds K T) (l : Lawful w) where
       let t = l .total j k in
       grind arith
 
-module _ {K T : Type 0} (w : Kinds K T) (l : Lawful w) (rs : List (Request K)) (R : K → Bool) (t u : ℕ) (h : t < u) (n : u ≤ suc (length rs)) (quiet : Still w rs R (suc t) u) where
-  -- with a request that says nothing here, it is still from the request on
-  still-from : (r : Request K) → numbered rs t ≡ Some r → ((k : K) → R k ≡ true → says w k r ≡ None) → Still w rs R t u
-  still-from r e none i x lo hi num k here =
+module _ {K T : Type 0} (w : Kinds K T) (l : Lawful w) (rs : List (Request K)) (R : K → Bool) (t u : ℕ) (h : t < u) (quiet : Still w rs R (suc t) u) where
+  -- with a request that changes nothing here, it is still from the request on
+  pub still-from : ((k : K) → R k ≡ true → Unmoved w rs t k) → Still w rs R t u
+  still-from none i lo hi k here =
       ⊎-elim
-      (λ lt. let same-number : i ≡ t = omega arith in
-             let same-request : Some x ≡ Some r = sym num ∙ ap (numbered rs) same-number ∙ e in
-             let eq : x ≡ r = cc in ap (says w k) eq ∙ none k here)
-      (λ ge. quiet i x ge hi num k here)
+      (λ lt. let same-number : t ≡ i = omega arith in subst (λ j. Unmoved w rs j k) same-number (none k here))
+      (λ ge. quiet i ge hi k here)
       (cases-lt i (suc t))
 
   -- the part of the tree that a request does not concern
-  pub child-stays : (r : Request K) (x : Tree K T) → numbered rs t ≡ Some r → ((k : K) → R k ≡ true → says w k r ≡ None) → Good w rs R t x → Good w rs R u x
-  child-stays r x e none g =
-      let z = numbered-within rs t r e in
-      good-later w l rs R t u x (z .0) (omega arith) n (still-from r e none) g
+  pub child-stays : (x : Tree K T) → ((k : K) → R k ≡ true → Unmoved w rs t k) → Good w rs R t x → Good w rs R u x
+  child-stays x none g = good-later w l rs R t u x (omega arith) (still-from none) g
 
   module _ (k : K) (e : numbered rs t ≡ Some (Enter k)) (here : R k ≡ true) (absent : was w rs t k ≡ false) where
     was-entered : (x : K) → R x ≡ true → was w rs u x ≡ (same w x k || was w rs t x)
     was-entered x r =
         let next = was-next w l rs t (Enter k) x e in
-        was-still w l rs R (suc t) u (omega arith) (omega arith) n quiet x r ∙ next ∙ told-by-enter w (same w x k) (was w rs t x)
+        was-still w l rs R (suc t) u (omega arith) quiet x r ∙ next ∙ told-by-enter w (same w x k) (was w rs t x)
 
     tally-entered : weight-before w R rs u ≡ w .joined (weight-before w R rs t) (w .weighed k)
     tally-entered =
-        weight-still w l rs R (suc t) u (omega arith) (omega arith) n quiet ∙ weight-entered w l rs R t k e absent here
+        weight-still w l rs R (suc t) u (omega arith) quiet ∙ weight-entered w l rs R t k e absent here
 
     pub child-entered : (x : Tree K T) → Good w rs R t x → Good w rs R u (enter-child w t k x)
     child-entered bare g = (here, λ x r. was-entered x r ∙ ap (λ v. same w x k || v) (g x r) ∙ or-false (same w x k))
@@ -113,7 +109,7 @@ module _ {K T : Type 0} (w : Kinds K T) (l : Lawful w) (rs : List (Request K)) (
             weighs = ap (λ v. w .joined v (w .weighed k)) (sym alone) ∙ sym tally-entered;
             lined = h;
             fits = tt;
-            still = λ i r lo hi. absurd (omega arith)
+            still = λ i lo hi. absurd (omega arith)
           }
         , (tt, tt)
         , ( both-true lesser-here (lesser-first w l j k differ)
@@ -140,11 +136,11 @@ module _ {K T : Type 0} (w : Kinds K T) (l : Lawful w) (rs : List (Request K)) (
     was-withdrawn : (x : K) → R x ≡ true → was w rs u x ≡ (not (same w x k) && was w rs t x)
     was-withdrawn x r =
         let next = was-next w l rs t (Withdraw k) x e in
-        was-still w l rs R (suc t) u (omega arith) (omega arith) n quiet x r ∙ next ∙ told-by-withdraw w (same w x k) (was w rs t x)
+        was-still w l rs R (suc t) u (omega arith) quiet x r ∙ next ∙ told-by-withdraw w (same w x k) (was w rs t x)
 
     tally-withdrawn : weight-before w R rs u ≡ w .joined (weight-before w R rs t) (w .opposed (w .weighed k))
     tally-withdrawn =
-        weight-still w l rs R (suc t) u (omega arith) (omega arith) n quiet ∙ weight-withdrawn w l rs R t k e there here
+        weight-still w l rs R (suc t) u (omega arith) quiet ∙ weight-withdrawn w l rs R t k e there here
 
     pub child-withdrawn : (x : Tree K T) → Good w rs R t x → Good w rs R u (withdraw-child w t k x)
     child-withdrawn bare g = absurd (true≢false (sym there ∙ g k here))
@@ -157,11 +153,13 @@ module _ {K T : Type 0} (w : Kinds K T) (l : Lawful w) (rs : List (Request K)) (
         (subst (Waiter-fits w rs R t Between) (sym e) (here, there)) quiet g
 
   module _ (lo hi : K) (e : numbered rs t ≡ Some (Count lo hi)) where
+    silent : (k : K) → R k ≡ true → Unmoved w rs t k
+    silent k r = unmoved-silent w l rs t (Count lo hi) k e refl
+
     pub child-counted : (m : Mode) (x : Tree K T) → Mode-fits w R lo hi m → Good w rs R t x → Good w rs R u (count-child w t m x)
-    child-counted m bare fit g = child-stays (Count lo hi) bare e (λ k r. refl) g
-    child-counted m (leaf j) fit g = child-stays (Count lo hi) (leaf j) e (λ k r. refl) g
+    child-counted m bare fit g = child-stays bare silent g
+    child-counted m (leaf j) fit g = child-stays (leaf j) silent g
     child-counted m (node f s tally q a b) fit g =
-        let z = numbered-within rs t (Count lo hi) e in
         node-joins w rs R u f s tally tally q (waiter t m) a b h
-        (g .0 .weighs ∙ sym (weight-still w l rs R t u (z .0) (omega arith) n (still-from (Count lo hi) e (λ k r. refl))))
+        (g .0 .weighs ∙ sym (weight-still w l rs R t u (omega arith) (still-from silent)))
         (subst (Waiter-fits w rs R t m) (sym e) fit) quiet g

@@ -16,7 +16,7 @@ use Rattle.rules.specs.Kinds.{Kinds, Lawful, same, before}
 use Rattle.rules.specs.States.{Waiter}
 use Rattle.rules.specs.Queues.{numbered, stands}
 use Rattle.rules.specs.Carries.{says}
-use Rattle.rules.proofs.Befores.{was, weight-before, Still}
+use Rattle.rules.proofs.Befores.{was, weight-before, Unmoved}
 use Rattle.rules.proofs.Trees.{Tree, bare, leaf, node}
 
 -- the time of what hangs below a queue: just before its head, or as above where it is empty
@@ -64,8 +64,7 @@ module _ {K T : Type 0} (w : Kinds K T) where
   -- requests from the head's number up to the time above that do not wait here change no key of the region
   abbrev pub Still-but : List (Request K) → (K → Bool) → List Waiter → ℕ → Type 0
   Still-but rs R q t =
-      (i : ℕ) (r : Request K) → below q t ≤ i → i < t → stands i q ≡ false → numbered rs i ≡ Some r
-      → (k : K) → R k ≡ true → says w k r ≡ None
+      (i : ℕ) → below q t ≤ i → i < t → stands i q ≡ false → (k : K) → R k ≡ true → Unmoved w rs i k
 
   -- a place in its region R, at the time t above it
   pub record Place-good (rs : List (Request K)) (R : K → Bool) (t : ℕ) (p : ℕ) (s : K) (tally : T) (q : List Waiter) : Type 0 where

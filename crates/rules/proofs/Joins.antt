@@ -72,13 +72,13 @@ module _ {K T : Type 0} (w : Kinds K T) (rs : List (Request K)) where
       , subst (λ t. Good w rs (right-of w R s) t b) (sym (below-append q e u)) (g .3))
     where
       still : Still-but w rs R (q ++ (e ∷ [])) u
-      still i r lo hi out num k here =
+      still i lo hi out k here =
           let from : below q (e .number) ≤ i = subst (λ t. t ≤ i) (below-append q e u) lo in
           let both : (stands i q || eqb (e .number) i) ≡ false = sym (stands-append i q e) ∙ out in
           let away : stands i q ≡ false = grind arith in
           ⊎-elim
-          (λ lt. g .0 .still i r from lt away num k here)
-          (λ ge. quiet i r (let other : eqb (e .number) i ≡ false = grind arith in grind arith) hi num k here)
+          (λ lt. g .0 .still i from lt away k here)
+          (λ ge. quiet i (let other : eqb (e .number) i ≡ false = grind arith in grind arith) hi k here)
           (cases-lt i (e .number))
 
   -- the head of a place's queue has left, and what hangs there is good at the new time below
@@ -101,16 +101,16 @@ module _ {K T : Type 0} (w : Kinds K T) (rs : List (Request K)) where
       , gd)
     where
       still : Still-but w rs R q t
-      still i r lo hi out =
+      still i lo hi out =
           let far = lined-below (e .number) q t (g .0 .lined .1) in
-          g .0 .still i r (omega (arith, far .0)) hi (let other : eqb (e .number) i ≡ false = grind (arith, far .0) in grind arith)
+          g .0 .still i (omega (arith, far .0)) hi (let other : eqb (e .number) i ≡ false = grind (arith, far .0) in grind arith)
 
   -- between the head and the next one nothing of the region changes
   pub still-behind : (R : K → Bool) (t : ℕ) (p : ℕ) (s : K) (tally : T) (e : Waiter) (q : List Waiter)
       → Place-good w rs R t p s tally (e ∷ q) → Still w rs R (suc (e .number)) (below q t)
-  still-behind R t p s tally e q g i r lo hi =
+  still-behind R t p s tally e q g i lo hi =
       let far = lined-below (e .number) q t (g .lined .1) in
-      g .still i r (omega arith) (omega (arith, far .1)) (nobody q (g .lined .1) hi)
+      g .still i (omega arith) (omega (arith, far .1)) (nobody q (g .lined .1) hi)
     where
       away : (x : ℕ) (rest : List Waiter) → Lined x rest t → i ≤ x → stands i rest ≡ false
       away x [] d h = refl

@@ -23,3 +23,7 @@ pub mod Shares
 pub mod Shows
 pub mod Stepped
 pub mod Locals
+pub mod Visits
+pub mod Falls
+pub mod Bounds
+pub mod Holds

@@ -17,7 +17,7 @@ use Rattle.rules.specs.Queues.{numbered}
 use Rattle.rules.specs.Moves.{Side, on-left, on-right, Step, show, add, count-steps}
 use Rattle.rules.specs.Carries.{says}
 use Rattle.rules.proofs.Bools.{both-true}
-use Rattle.rules.proofs.Befores.{was, Still, still-within}
+use Rattle.rules.proofs.Befores.{was, Still, still-within, unmoved-silent}
 use Rattle.rules.proofs.Trees.{Tree, bare, leaf, node}
 use Rattle.rules.proofs.Goods.{below, Over, left-of, right-of, Mode-fits, Waiter-fits, Place-good, Good}
 use Rattle.rules.proofs.Later.{left-in, left-side, right-in, right-side, lined-below}
@@ -83,8 +83,6 @@ module _ {K T : Type 0} (w : Kinds K T) (l : Lawful w) where
       (g : Good w rs R t (node p s tally (e ∷ q) a b)) (n : t ≤ suc (length rs)) where
     far : (e .number < below q t) × (below q t ≤ t)
     far = lined-below (e .number) q t (g .0 .lined .1)
-    room : below q t ≤ suc (length rs)
-    room = omega (arith, far .1)
     quiet : Still w rs R (suc (e .number)) (below q t)
     quiet = still-behind w rs R t p s tally e q (g .0)
     quiet-left : Still w rs (left-of w R s) (suc (e .number)) (below q t)
@@ -97,32 +95,32 @@ module _ {K T : Type 0} (w : Kinds K T) (l : Lawful w) where
     Pair-good cd = Over p (cd .0) × Over p (cd .1) × Good w rs (left-of w R s) (below q t) (cd .0) × Good w rs (right-of w R s) (below q t) (cd .1)
 
     stays-left : (r : Request K) → numbered rs (e .number) ≡ Some r → ((k : K) → left-of w R s k ≡ true → says w k r ≡ None) → Good w rs (left-of w R s) (below q t) a
-    stays-left r num none = child-stays w l rs (left-of w R s) (e .number) (below q t) (far .0) room quiet-left r a num none (g .2)
+    stays-left r num none = child-stays w l rs (left-of w R s) (e .number) (below q t) (far .0) quiet-left a (λ k h. unmoved-silent w l rs (e .number) r k num (none k h)) (g .2)
 
     stays-right : (r : Request K) → numbered rs (e .number) ≡ Some r → ((k : K) → right-of w R s k ≡ true → says w k r ≡ None) → Good w rs (right-of w R s) (below q t) b
-    stays-right r num none = child-stays w l rs (right-of w R s) (e .number) (below q t) (far .0) room quiet-right r b num none (g .3)
+    stays-right r num none = child-stays w l rs (right-of w R s) (e .number) (below q t) (far .0) quiet-right b (λ k h. unmoved-silent w l rs (e .number) r k num (none k h)) (g .3)
 
     pair-entered : (k : K) → numbered rs (e .number) ≡ Some (Enter k) → R k ≡ true → was w rs (e .number) k ≡ false
         → (c : Bool) → before w k s ≡ c → Pair-good (cond c (enter-child w (e .number) k a, b) (a, enter-child w (e .number) k b))
     pair-entered k num here absent true f =
         ( over-enter w p (e .number) k a (g .0 .lined .0) (g .1 .0) , g .1 .1
-        , child-entered w l rs (left-of w R s) (e .number) (below q t) (far .0) room quiet-left k num (both-true here f) absent a (g .2)
+        , child-entered w l rs (left-of w R s) (e .number) (below q t) (far .0) quiet-left k num (both-true here f) absent a (g .2)
         , stays-right (Enter k) num (λ x r. rw (other-right R s k x f r)))
     pair-entered k num here absent false f =
         ( g .1 .0 , over-enter w p (e .number) k b (g .0 .lined .0) (g .1 .1)
         , stays-left (Enter k) num (λ x r. rw (other-left R s k x f r))
-        , child-entered w l rs (right-of w R s) (e .number) (below q t) (far .0) room quiet-right k num (both-true here (grind arith)) absent b (g .3))
+        , child-entered w l rs (right-of w R s) (e .number) (below q t) (far .0) quiet-right k num (both-true here (grind arith)) absent b (g .3))
 
     pair-withdrawn : (k : K) → numbered rs (e .number) ≡ Some (Withdraw k) → R k ≡ true → was w rs (e .number) k ≡ true
         → (c : Bool) → before w k s ≡ c → Pair-good (cond c (withdraw-child w (e .number) k a, b) (a, withdraw-child w (e .number) k b))
     pair-withdrawn k num here there true f =
         ( over-withdraw w p (e .number) k a (g .1 .0) , g .1 .1
-        , child-withdrawn w l rs (left-of w R s) (e .number) (below q t) (far .0) room quiet-left k num (both-true here f) there a (g .2)
+        , child-withdrawn w l rs (left-of w R s) (e .number) (below q t) (far .0) quiet-left k num (both-true here f) there a (g .2)
         , stays-right (Withdraw k) num (λ x r. rw (other-right R s k x f r)))
     pair-withdrawn k num here there false f =
         ( g .1 .0 , over-withdraw w p (e .number) k b (g .1 .1)
         , stays-left (Withdraw k) num (λ x r. rw (other-left R s k x f r))
-        , child-withdrawn w l rs (right-of w R s) (e .number) (below q t) (far .0) room quiet-right k num (both-true here (grind arith)) there b (g .3))
+        , child-withdrawn w l rs (right-of w R s) (e .number) (below q t) (far .0) quiet-right k num (both-true here (grind arith)) there b (g .3))
 
     module _ (lo hi : K) (num : numbered rs (e .number) ≡ Some (Count lo hi)) where
       still-left : Good w rs (left-of w R s) (below q t) a
@@ -130,9 +128,9 @@ module _ {K T : Type 0} (w : Kinds K T) (l : Lawful w) where
       still-right : Good w rs (right-of w R s) (below q t) b
       still-right = stays-right (Count lo hi) num (λ k r. refl)
       show-left : (m : Mode) → Mode-fits w (left-of w R s) lo hi m → Good w rs (left-of w R s) (below q t) (count-child w (e .number) m a)
-      show-left m fit = child-counted w l rs (left-of w R s) (e .number) (below q t) (far .0) room quiet-left lo hi num m a fit (g .2)
+      show-left m fit = child-counted w l rs (left-of w R s) (e .number) (below q t) (far .0) quiet-left lo hi num m a fit (g .2)
       show-right : (m : Mode) → Mode-fits w (right-of w R s) lo hi m → Good w rs (right-of w R s) (below q t) (count-child w (e .number) m b)
-      show-right m fit = child-counted w l rs (right-of w R s) (e .number) (below q t) (far .0) room quiet-right lo hi num m b fit (g .3)
+      show-right m fit = child-counted w l rs (right-of w R s) (e .number) (below q t) (far .0) quiet-right lo hi num m b fit (g .3)
       up-left : (m : Mode) → Over p (count-child w (e .number) m a)
       up-left m = over-count w p (e .number) m a (g .1 .0)
       up-right : (m : Mode) → Over p (count-child w (e .number) m b)

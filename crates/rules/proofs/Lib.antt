@@ -27,3 +27,4 @@ pub mod Visits
 pub mod Falls
 pub mod Bounds
 pub mod Holds
+pub mod MovedBy

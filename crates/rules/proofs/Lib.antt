@@ -28,3 +28,6 @@ pub mod Falls
 pub mod Bounds
 pub mod Holds
 pub mod MovedBy
+pub mod Tames
+pub mod Unmade
+pub mod Descents

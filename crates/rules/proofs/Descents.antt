@@ -38,7 +38,7 @@ use Rattle.rules.proofs.Falls.{falls-moved}
 use Rattle.rules.proofs.Holds.{In-turn, Everywhere, Bears, Walks, Holds}
 use Rattle.rules.proofs.MovedBy.{Moved-by}
 
-heads-first : (e : Waiter) (q q′ : List Waiter) → q′ ≡ e ∷ q → heads (e .number) q′ ≡ true
+pub heads-first : (e : Waiter) (q q′ : List Waiter) → q′ ≡ e ∷ q → heads (e .number) q′ ≡ true
 heads-first e q q′ line = ap (heads (e .number)) line ∙ same (e .number)
   where
     same : (i : ℕ) → eqb i i ≡ true
@@ -49,7 +49,7 @@ heads-stands i [] h = h
 heads-stands i (e ∷ q) h = or-left (eqb (e .number) i) (stands i q) h
 
 -- the gate's numbers end where they do
-in-turn-end : (lo : ℕ) (q : List Waiter) (hi : ℕ) → In-turn lo q hi → lo ≤ hi
+pub in-turn-end : (lo : ℕ) (q : List Waiter) (hi : ℕ) → In-turn lo q hi → lo ≤ hi
 in-turn-end lo [] hi d = omega arith
 in-turn-end lo (e ∷ q) hi d = let ih = in-turn-end (suc lo) q hi (d .1) in omega arith
 

@@ -31,3 +31,5 @@ pub mod MovedBy
 pub mod Tames
 pub mod Unmade
 pub mod Descents
+pub mod Gates
+pub mod Passing

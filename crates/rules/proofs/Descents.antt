@@ -203,6 +203,7 @@ module _ {K T : Type 0} (w : Kinds K T) (l : Lawful w) (s : State K T) (x : Tree
     started = h .started;
     good = change .good;
     decided = λ i r₁ k asked seeks. ⊎-elim (λ d. inl (ap (λ f. f i) (tame .rest .decision) ∙ d)) (λ d. inr (ap (λ f. f i) (tame .rest .decision) ∙ d .0, d .1)) (h .decided i r₁ k asked seeks);
+    unasked = λ i over. ap (λ f. f i) (tame .rest .decision) ∙ h .unasked i over;
     answers = bears;
     counts = λ i lo hi asked lt. change .pends i lo hi asked ∙ h .counts i lo hi asked lt;
     uncounted = λ i late. tame .counted i (apart-eqb i t (λ same. omega (arith, passed))) ∙ h .uncounted i late;

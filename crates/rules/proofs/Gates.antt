@@ -91,6 +91,7 @@ module _ {K T : Type 0} (w : Kinds K T) (l : Lawful w) (s : State K T) (x y : Tr
           (let later : (i ≡ time → ⊥) = λ same. decided-now k (ap sought (one r₁ (sym asked-now ∙ ap (numbered (s .requests)) (sym same) ∙ asked)) ∙ seeks) (ap (s .decision) (sym same) ∙ d .0) in
            let from = d .1 in above i later from)))
         (h .decided i r₁ k asked seeks);
+    unasked = λ i over. ap (λ f. f i) (tame .rest .decision) ∙ h .unasked i over;
     answers = λ i r₁ asked lt out.
         ⊎-elim
         (λ same. subst (λ j. Bears w (s .requests) s′ j r₁) (sym same) (subst (Bears w (s .requests) s′ time) (one r₁ (sym asked-now ∙ ap (numbered (s .requests)) (sym same) ∙ asked)) (through .answer (ap (λ j. waiting j y) (sym same) ∙ out))))

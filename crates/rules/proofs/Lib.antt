@@ -33,3 +33,6 @@ pub mod Unmade
 pub mod Descents
 pub mod Gates
 pub mod Passing
+pub mod Keeps
+pub mod Submits
+pub mod Tells

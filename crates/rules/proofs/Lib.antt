@@ -28,3 +28,8 @@ pub mod Falls
 pub mod Bounds
 pub mod Holds
 pub mod MovedBy
+pub mod Interface
+pub mod Ways
+pub mod Deeds
+pub mod Carrying
+pub mod Runs

@@ -36,3 +36,8 @@ pub mod Passing
 pub mod Keeps
 pub mod Submits
 pub mod Tells
+pub mod Interface
+pub mod Ways
+pub mod Deeds
+pub mod Carrying
+pub mod Runs

@@ -41,3 +41,5 @@ pub mod Ways
 pub mod Deeds
 pub mod Carrying
 pub mod Runs
+pub mod Instance
+pub mod Finals

@@ -43,3 +43,4 @@ pub mod Carrying
 pub mod Runs
 pub mod Instance
 pub mod Finals
+pub mod Listing

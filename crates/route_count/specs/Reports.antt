@@ -30,15 +30,19 @@ refused-lines number [] = []
 refused-lines number (Ok route ∷ readings) = refused-lines (number + 1) readings
 refused-lines number (Err refusal ∷ readings) = refused-line number refusal ++ refused-lines (number + 1) readings
 
+-- a count with its name before it
+abbrev pub counted-line : List ℕ → ℕ → List ℕ
+counted-line name number = name ++ (decimal number ++ newline)
+
 -- how many routes, and how many of each class
-abbrev pub totals : Pair Number Classes → List ℕ
-totals tally =
-    codes "routes " ++ (decimal (tally .first .value) ++ (newline ++
-    (codes "class M " ++ (decimal (count-in (tally .second) M) ++ (newline ++
-    (codes "class W " ++ (decimal (count-in (tally .second) W) ++ (newline ++
-    (codes "class C " ++ (decimal (count-in (tally .second) C) ++ (newline ++
-    (codes "class S " ++ (decimal (count-in (tally .second) S) ++ newline)))))))))))))
+abbrev pub totals-of : ℕ → ℕ → ℕ → ℕ → ℕ → List ℕ
+totals-of routes m w c s =
+    counted-line (codes "routes ") routes ++ (counted-line (codes "class M ") m ++ (counted-line (codes "class W ") w ++ (counted-line (codes "class C ") c ++ counted-line (codes "class S ") s)))
+
+abbrev pub totals-text : Pair Number Classes → List ℕ
+totals-text tally =
+    totals-of (tally .first .value) (count-in (tally .second) M) (count-in (tally .second) W) (count-in (tally .second) C) (count-in (tally .second) S)
 
 -- the lines refused come first, the totals last
 abbrev pub report-on : List (Result Route Refusal) → List ℕ
-report-on readings = refused-lines 1 readings ++ totals (routes-weight readings)
+report-on readings = refused-lines 1 readings ++ totals-text (routes-weight readings)

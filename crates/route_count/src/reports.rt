@@ -2,7 +2,7 @@
 ghost use mathlib.Core.Path.{_≡_};
 ghost use Rattle.std.specs.Of.String.{string-bytes};
 ghost use Rattle.std.specs.Vec.{made};
-ghost use Rattle.route_count.specs.Reports.{refused-line, totals};
+ghost use Rattle.route_count.specs.Reports.{refused-line, totals-text};
 use keys::Class;
 use keys::Refusal;
 use std::alloc::AllocError;
@@ -21,7 +21,7 @@ fn refused_line(heap: Global, number: usize, refusal: Refusal) -> Result<String,
 
 // What is written of the routes.
 fn totals(heap: Global, tally: Pair<Number, Classes>) -> Result<String, AllocError>
-    ensures { λ r. ⌜ made r (λ s. string-bytes s ≡ totals tally) ⌝ }
+    ensures { λ r. ⌜ made r (λ s. string-bytes s ≡ totals-text tally) ⌝ }
 {
     let routes = tally.first.value();
     let m = tally.second.count(Class::M);

@@ -1,10 +1,14 @@
--- Texts put together. Assumes nothing.
+-- Texts put together: the totals, and one refused line after another. Assumes nothing.
 use mathlib.Core.Path.{_≡_, refl, sym, ap, _∙_}
-use mathlib.Core.List.{List, [], _∷_, _++_, append-assoc}
-use Prim.Native.Nat.{ℕ}
+use mathlib.Core.List.{List, [], _∷_, _++_, map, append-assoc}
+use Prim.Native.Nat.{ℕ, _+_}
 use lib.Chars.{codes}
+use Rattle.std.specs.declared.result.Result.the-variants.{Err}
 use Rattle.std.specs.Written.{decimal}
-use Rattle.route_count.specs.Reports.{newline, counted-line, totals-of}
+use Rattle.keys.specs.declared.refusal.Refusal.{Refusal}
+use Rattle.words.specs.Lines.{line-route}
+use Rattle.route_count.specs.Reports.{newline, counted-line, totals-of, refused-line, refused-lines}
+use Rattle.route_count.specs.Rows.{lines, readings}
 
 counted-line-on : (name rest : List ℕ) (number : ℕ) → counted-line name number ++ rest ≡ name ++ (decimal number ++ (newline ++ rest))
 counted-line-on name rest number = append-assoc name _ rest ∙ ap (λ t. name ++ t) (append-assoc (decimal number) newline rest)
@@ -19,3 +23,9 @@ totals-written routes m w c s =
 
 pub totals-same : (routes m w c s routes′ m′ w′ c′ s′ : ℕ) → routes ≡ routes′ → m ≡ m′ → w ≡ w′ → c ≡ c′ → s ≡ s′ → totals-of routes m w c s ≡ totals-of routes′ m′ w′ c′ s′
 totals-same routes m w c s routes′ m′ w′ c′ s′ p q r t u = cc
+
+-- a refused line more is written, one line less is left
+pub refused-more : (left line rest written note : List ℕ) (number : ℕ) (refusal : Refusal) → lines left ≡ line ∷ lines rest → Err refusal ≡ line-route line → note ≡ refused-line number refusal → (written ++ note) ++ refused-lines (number + 1) (readings rest) ≡ written ++ refused-lines number (readings left)
+refused-more left line rest written note number refusal e f h =
+    let first : readings left ≡ Err refusal ∷ readings rest = ap (map line-route) e ∙ ap (λ r. r ∷ readings rest) (sym f) in
+    append-assoc written note _ ∙ rw (h, first)

@@ -4,3 +4,4 @@ mod lines;
 mod reports;
 
 pub use counts::count;
+pub use reports::report;

@@ -75,11 +75,26 @@ fn class_numbers() -> Result<(), Fail> {
 fn area_order() -> Result<(), Fail> {
     let late = numbered(Route::new(9_999, 9_999, Class::S))?;
     let early = numbered(Route::new(1, 1, Class::M))?;
-    let north = Area { number: 1, key: late };
-    let south = Area { number: 2, key: early };
+    let north = Area {
+        number: 1,
+        key: late,
+    };
+    let south = Area {
+        number: 2,
+        key: early,
+    };
     check(is_below(north, south))?;
     check(!is_below(south, north))?;
-    check(is_below(Area { number: 2, key: north }, Area { number: 2, key: south }))
+    check(is_below(
+        Area {
+            number: 2,
+            key: north,
+        },
+        Area {
+            number: 2,
+            key: south,
+        },
+    ))
 }
 
 #[test]

@@ -32,7 +32,10 @@ fn totals(heap: Global, tally: Pair<Number, Classes>) -> Result<String, AllocErr
     let w = tally.second.count(Class::W);
     let c = tally.second.count(Class::C);
     let s = tally.second.count(Class::S);
-    format!(heap, "routes {routes}\nclass M {m}\nclass W {w}\nclass C {c}\nclass S {s}\n")
+    format!(
+        heap,
+        "routes {routes}\nclass M {m}\nclass W {w}\nclass C {c}\nclass S {s}\n"
+    )
 }
 
 // What is written of all lines that are no routes.

@@ -59,7 +59,7 @@ row-written (a ∷ b ∷ c ∷ []) w h =
     record {
       entry-short = number-short a (w .entry) (parts .entry);
       exit-short = number-short b (w .exit) (parts .exit);
-      text = rw (p, q, r)
+      text = rw (p, q, r);
     }
 row-written (a ∷ b ∷ c ∷ d ∷ ds) w h = let z : _≡_ {A = ℕ} 0 1 = cc in absurd (omega arith)
 

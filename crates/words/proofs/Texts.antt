@@ -76,6 +76,7 @@ decimal-starts n h = ⊎-elim some none (cases-lt 0 n)
   where
     some : 0 < n → starts-well (decimal n) ≡ true
     some k = starts-by (decimal n) (first-decimal n k (omega arith))
+
     none : n ≤ 0 → starts-well (decimal n) ≡ true
     none k = ap starts-well (decimal-digit n (omega arith))
 

@@ -25,7 +25,8 @@ pub totals-same : (routes m w c s routes′ m′ w′ c′ s′ : ℕ) → route
 totals-same routes m w c s routes′ m′ w′ c′ s′ p q r t u = cc
 
 -- a refused line more is written, one line less is left
-pub refused-more : (left line rest written note : List ℕ) (number : ℕ) (refusal : Refusal) → lines left ≡ line ∷ lines rest → Err refusal ≡ line-route line → note ≡ refused-line number refusal → (written ++ note) ++ refused-lines (number + 1) (readings rest) ≡ written ++ refused-lines number (readings left)
-refused-more left line rest written note number refusal e f h =
+pub refused-more : (left rest written : List ℕ) {line after note shown all : List ℕ} (number : ℕ) (refusal : Refusal) → lines left ≡ line ∷ lines rest → Err refusal ≡ line-route line → after ≡ written ++ shown → shown ≡ note → note ≡ refused-line number refusal → written ++ refused-lines number (readings left) ≡ all → after ++ refused-lines (number + 1) (readings rest) ≡ all
+refused-more left rest written {shown = shown} number refusal e f p q h whole =
     let first : readings left ≡ Err refusal ∷ readings rest = ap (map line-route) e ∙ ap (λ r. r ∷ readings rest) (sym f) in
-    append-assoc written note _ ∙ rw (h, first)
+    let more : (written ++ shown) ++ refused-lines (number + 1) (readings rest) ≡ written ++ refused-lines number (readings left) = append-assoc written shown _ ∙ rw (q, h, first) in
+    ap (λ t. t ++ refused-lines (number + 1) (readings rest)) p ∙ (more ∙ whole)

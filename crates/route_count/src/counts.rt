@@ -1,7 +1,7 @@
 // Counting the routes of a text.
 ghost use mathlib.Core.Path.{_≡_};
 ghost use Rattle.route_count.specs.Rows.{readings};
-ghost use Rattle.route_count.specs.Totals.{routes-weight, with-reading};
+ghost use Rattle.route_count.specs.Totals.{Counts, routes-weight, with-reading};
 use super::lines::first_line;
 use keys::Refusal;
 use keys::Route;
@@ -30,7 +30,8 @@ fn counted(reading: Result<Route, Refusal>, total: Pair<Number, Classes>) -> Pai
 
 // The tally of all lines that are routes.
 pub fn count(text: &[u8]) -> Pair<Number, Classes>
-    ensures { λ r. ⌜ r ≡ routes-weight (readings (now (text .entry))) ⌝ }
+    ensures answer { λ r. ⌜ r ≡ routes-weight (readings (now (text .entry))) ⌝ }
+    ensures meaning { λ r. ⌜ Counts (readings (now (text .entry))) r ⌝ }
 {
     let mut total: Pair<Number, Classes> = PairTally::zero();
     let mut left = text;

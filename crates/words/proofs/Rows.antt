@@ -21,7 +21,7 @@ use Rattle.words.specs.Meaning.{Written, fields-text}
 use Rattle.words.proofs.Texts.{number-text, number-short, number-back, decimal-lacks, letter-text, letter-back, letter-lacks}
 
 -- a row of just three words
-pub row-by-words : (row : List (List ℕ)) (a b c : List ℕ) → Some a ≡ first-of row → Some b ≡ first-of (others-of row) → Some c ≡ first-of (others-of (others-of row)) → None ≡ first-of (others-of (others-of (others-of row))) → route-words a b c ≡ row-words row
+row-by-words : (row : List (List ℕ)) (a b c : List ℕ) → Some a ≡ first-of row → Some b ≡ first-of (others-of row) → Some c ≡ first-of (others-of (others-of row)) → None ≡ first-of (others-of (others-of (others-of row))) → route-words a b c ≡ row-words row
 row-by-words [] a b c p q r e = let z : _≡_ {A = ℕ} 0 1 = cc in absurd (omega arith)
 row-by-words (x ∷ []) a b c p q r e = let z : _≡_ {A = ℕ} 0 1 = cc in absurd (omega arith)
 row-by-words (x ∷ y ∷ []) a b c p q r e = let z : _≡_ {A = ℕ} 0 1 = cc in absurd (omega arith)
@@ -29,9 +29,17 @@ row-by-words (x ∷ y ∷ z ∷ []) a b c p q r e = cc
 row-by-words (x ∷ y ∷ z ∷ u ∷ us) a b c p q r e = let z : _≡_ {A = ℕ} 0 1 = cc in absurd (omega arith)
 
 -- there is no next
-pub none-next : (o : Option (RefT (List ℕ))) (first : Option (List ℕ)) → isSome o ≡ false → mapped now o ≡ first → None ≡ first
+none-next : (o : Option (RefT (List ℕ))) (first : Option (List ℕ)) → false ≡ isSome o → mapped now o ≡ first → None ≡ first
 none-next None first h e = e
-none-next (Some r) first h e = absurd (true≢false h)
+none-next (Some r) first h e = absurd (true≢false (sym h))
+
+-- the same, taken from what is left of a row one by one, until there is no next
+pub row-by-nexts : {row all later last past : List (List ℕ)} {a b c : List ℕ} (o : Option (RefT (List ℕ))) → all ≡ row → Some a ≡ first-of all → later ≡ others-of all → Some b ≡ first-of later → last ≡ others-of later → Some c ≡ first-of last → past ≡ others-of last → mapped now o ≡ first-of past → false ≡ isSome o → route-words a b c ≡ row-words row
+row-by-nexts {row = row} {a = a} {b = b} {c = c} o e p f q g r h n none =
+    let later = f ∙ ap others-of e in
+    let last = g ∙ ap others-of later in
+    let past = h ∙ ap others-of last in
+    row-by-words row a b c (p ∙ ap first-of e) (q ∙ ap first-of later) (r ∙ ap first-of last) (none-next o _ none (n ∙ ap first-of past))
 
 record Three (p q : Option ℕ) (r : Option Class) (w : RouteWords) : Type 0 where
   entry : p ≡ Some (w .entry)

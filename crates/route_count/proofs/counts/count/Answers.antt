@@ -3,6 +3,7 @@ use mathlib.Core.Path.{_≡_, sym, ap, _∙_}
 use Rattle.route_count.specs.Rows.{readings}
 use Rattle.route_count.specs.Totals.{both-joined, with-reading, routes-weight}
 use Rattle.route_count.proofs.Joinings.{joined-none, count-more, count-all}
+use Rattle.route_count.proofs.Meanings.{counts}
 use Rattle.route_count.proofs.counts.count.Needs as need
 
 pub loop-line-holds : need.loop-line-holds
@@ -17,4 +18,6 @@ loop-line-again c =
     ap (λ t. both-joined t (routes-weight (readings rest))) total ∙ count-more (c .loop-line .left .now) (c .in-Some .line .now) rest (c .loop-line .total) (c .in-Some .ensures tt .answer) ∙ c .loop-line .inv
 
 pub returns : need.returns
-returns c = sym (count-all (c .loop-line .left .now) (c .loop-line .total) (c .in-rest .ensures tt .answer)) ∙ c .loop-line .inv
+returns c =
+    let total : c .loop-line .total ≡ routes-weight (readings (c .args .text .now)) = sym (count-all (c .loop-line .left .now) (c .loop-line .total) (c .in-rest .ensures tt .answer)) ∙ c .loop-line .inv in
+    record { answer = total; meaning = counts (readings (c .args .text .now)) (c .loop-line .total) total }

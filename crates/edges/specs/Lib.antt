@@ -7,3 +7,4 @@ pub mod Small
 pub mod Turns
 pub mod Rooms
 pub mod Vectors
+pub mod Cases

@@ -3,4 +3,8 @@ pub mod Room
 pub mod FirstRequest
 pub mod OneKey
 pub mod TwoKeys
-pub mod Vectors
+pub mod EmptyRange
+pub mod Quiet
+pub mod QuietMoves
+pub mod QuietCalls
+pub mod Cases

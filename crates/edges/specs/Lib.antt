@@ -8,3 +8,4 @@ pub mod Turns
 pub mod Rooms
 pub mod Vectors
 pub mod Cases
+pub mod Named

@@ -51,12 +51,13 @@ module _ {K T : Type 0} (w : Kinds K T) where
 
     -- a request joins a queue, a narrow count in mode between
     pub waiter-still : (s : State K T) (f t : ℕ) (m : Mode) → (Narrow t → m ≡ Between) → Still s → Still (with-waiter s f t m)
-    waiter-still s f t m h i =
-        (i .0,
-         λ t' n. (
-           i .1 t' n .0,
-           λ p. betweens-either t' (eqb p f) _ _ (betweens-joined t' (s .queue f) (record { number = t; mode = m }) (i .1 t' n .1 f) (λ e. h (subst Narrow (sym e) n))) (i .1 t' n .1 p)
-         ))
+    waiter-still s f t m h i = (
+      i .0,
+      λ t' n. (
+        i .1 t' n .0,
+        λ p. betweens-either t' (eqb p f) _ _ (betweens-joined t' (s .queue f) (record { number = t; mode = m }) (i .1 t' n .1 f) (λ e. h (subst Narrow (sym e) n))) (i .1 t' n .1 p),
+      ),
+    )
 
     -- a head leaves
     pub behind-still : (s : State K T) (p : ℕ) → Still s → Still (with-queue s p (behind (s .queue p)))

@@ -51,7 +51,7 @@ module _ {K T : Type 0} (w : Kinds K T) where
       split = cond b k j;
       left = holds (cond b j k);
       right = holds (cond b k j);
-      tally = w .joined (w .weighed j) (w .weighed k)
+      tally = w .joined (w .weighed j) (w .weighed k);
     }
 
     makes-place : (b : Bool) → 2 ≤ cells → same w j k ≡ false → w .le j k ≡ b → Makes-place w (run w cells (both j k)) (made-by b)

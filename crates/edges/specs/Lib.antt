@@ -6,6 +6,7 @@ pub mod Forking
 pub mod Small
 pub mod Turns
 pub mod Rooms
+pub mod Pencil
 pub mod Vectors
 pub mod Cases
 pub mod Named

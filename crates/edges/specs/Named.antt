@@ -13,12 +13,13 @@ use Rattle.keys.specs.Names.{filled}
 use Rattle.keys.specs.Orders.{below}
 use Rattle.keys.specs.Routes.{route-le, route-of}
 use Rattle.keys.specs.Sections.{section-le, section-made, section-of}
-use Rattle.tallies.specs.Numbers.{number-of}
+use Rattle.tallies.specs.Numbers.{number-of, number-joined, number-opposed}
 use Rattle.requests.specs.declared.answer.Answer.the-variants.{Changed, Unchanged, Absent, Counted}
 use Rattle.requests.specs.Answers.{answer-code}
 use Rattle.rules.specs.States.{holds}
 use Rattle.rules.specs.Queues.{final-answer}
 use Rattle.rules.specs.Calls.{run}
+use Rattle.rules.specs.Laws.{enough}
 use Rattle.edges.specs.Cases.{Edge-cases, twice, in-and-out, both, Makes-place}
 use Rattle.edges.specs.Worked.{routes-by-number, route}
 
@@ -52,7 +53,7 @@ abbrev pub Ten-after-twelve : Type 0
 Ten-after-twelve =
     (cells : ℕ) → 2 ≤ cells
     → Makes-place routes-by-number (run routes-by-number cells (both (route 12 14 M) (route 10 14 M)))
-      (record { split = route 12 14 M; left = holds (route 10 14 M); right = holds (route 12 14 M); tally = number-of 2 })
+    (record { split = route 12 14 M; left = holds (route 10 14 M); right = holds (route 12 14 M); tally = number-of 2 })
 
 -- Entry comes first, then exit, then class; signals end at 9,999.
 abbrev pub Routes-ascend : Type 0
@@ -87,6 +88,24 @@ Names-end =
     × (section-of [] ≡ Err OutOfRange)
     × (section-of (codes "a") ≡ Err OutOfRange)
 
+-- Joining the opposite of 1 takes one off; a sum that reaches 2^32 starts from 0 again.
+abbrev pub Numbers-wrap : Type 0
+Numbers-wrap =
+    (number-opposed (number-of 1) .value ≡ 4294967295)
+    × (number-joined (number-of 3) (number-opposed (number-of 1)) .value ≡ 2)
+    × (number-joined (number-of 4294967295) (number-of 1) .value ≡ 0)
+    × (number-opposed (number-of 0) .value ≡ 0)
+
+-- How many calls suffice for a request of that number.
+abbrev pub Calls-that-suffice : Type 0
+Calls-that-suffice =
+    (enough routes-by-number 1 ≡ 4)
+    × (enough routes-by-number 2 ≡ 11)
+    × (enough routes-by-number 3 ≡ 21)
+    × (enough routes-by-number 4 ≡ 34)
+    × (enough routes-by-number 10 ≡ 175)
+    × (enough routes-by-number 1024 ≡ 1575424)
+
 pub record Named-cases : Type 0 where
   -- routes counted by number are one of the kinds for which all edge cases stand
   pub edges : Edge-cases routes-by-number
@@ -98,3 +117,5 @@ pub record Named-cases : Type 0 where
   pub signals-end : Signals-end
   pub sections-ascend : Sections-ascend
   pub names-end : Names-end
+  pub numbers-wrap : Numbers-wrap
+  pub calls-that-suffice : Calls-that-suffice

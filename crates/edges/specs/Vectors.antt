@@ -1,4 +1,4 @@
--- Every worked run, over routes counted by number: 64 cells unless the run says otherwise.
+-- Every worked run, over routes counted by number: of a register over so many cells, and of the plain set by hand.
 use Rattle.edges.specs.Tables.{Holds}
 use Rattle.edges.specs.Worked.{routes-by-number}
 use Rattle.edges.specs.Helping.{helping}
@@ -7,6 +7,7 @@ use Rattle.edges.specs.Forking.{forking}
 use Rattle.edges.specs.Small.{served-by-another, counting-nothing, one-key, seen-undecided, seen-decided, out-of-range}
 use Rattle.edges.specs.Turns.{in-the-middle, walk-overtaken, walk-outlived, halves-shared, last-decides}
 use Rattle.edges.specs.Rooms.{one-cell, no-cell}
+use Rattle.edges.specs.Pencil.{Pencil-agrees, one-key-by-hand, archive-by-hand}
 
 pub record Vectors : Type 0 where
   pub helping : Holds routes-by-number 64 helping
@@ -25,3 +26,5 @@ pub record Vectors : Type 0 where
   pub last-decides : Holds routes-by-number 64 last-decides
   pub one-cell : Holds routes-by-number 1 one-cell
   pub no-cell : Holds routes-by-number 0 no-cell
+  pub one-key-by-hand : Pencil-agrees routes-by-number one-key-by-hand
+  pub archive-by-hand : Pencil-agrees routes-by-number archive-by-hand

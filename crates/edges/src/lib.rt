@@ -13,8 +13,7 @@ use tallies::Tally;
 // The edge cases stand for every kind of key and of tally.
 pub fn edges_stand<K: Key, T: Tally<K>>()
     ensures { λ _. ⌜ Edge-cases (kinds-of K·Key T·Tally) ⌝ }
-{
-}
+{}
 
 // The cases that name routes and sections stand; the general ones are called on for routes counted by number.
 pub fn named_stand()
@@ -26,5 +25,4 @@ pub fn named_stand()
 // The worked runs come out line by line as they are written.
 pub fn vectors_stand()
     ensures { λ _. ⌜ Vectors ⌝ }
-{
-}
+{}

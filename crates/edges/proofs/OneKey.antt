@@ -70,7 +70,9 @@ module _ {K T : Type 0} (w : Kinds K T) (law : Lawful w) where
 
     -- what the count has added, which is zero joined with the key's weight
     counted : Some (Counted (w .joined (w .none) (cond (same w k k) (w .weighed k) (w .none)))) ≡ Some (Counted (w .weighed k))
-    counted = ap (λ b. Some (Counted (w .joined (w .none) (cond b (w .weighed k) (w .none))))) (same-self k) ∙ ap (λ x. Some (Counted x)) (law .neutral (w .weighed k))
+    counted =
+        ap (λ b. Some (Counted (w .joined (w .none) (cond b (w .weighed k) (w .none))))) (same-self k)
+        ∙ ap (λ x. Some (Counted x)) (law .neutral (w .weighed k))
 
   pub entered-twice : Entered-twice w
   entered-twice cells k h =

@@ -1,20 +1,19 @@
 -- Counts whose upper key comes before their lower stay quiet: their tally stays zero, and they wait in mode between
 -- alone. This invariant of a state, and the changes that keep it.
-use mathlib.Core.Path.{_≡_, refl, ap, ap₂, sym, subst, _∙_}
-use mathlib.Core.Bool.{Bool, true, false, not, cond, _&&_}
+use mathlib.Core.Path.{_≡_, refl, sym, subst}
+use mathlib.Core.Bool.{Bool, true, false, cond}
 use mathlib.Core.List.{List, [], _∷_, _++_}
-use native.Mathlib.Omega.{arith}
 use borrow.Author.Tests.{eqb-true}
 use Prim.Native.Nat.{ℕ, zero, suc}
 use lib.Dec.{eqb}
 use Rattle.std.specs.declared.option.Option.{Option}
 use Rattle.std.specs.declared.option.Option.the-variants.{Some, None}
 use Rattle.requests.specs.declared.request.Request.{Request}
-use Rattle.requests.specs.declared.request.Request.the-variants.{Enter, Withdraw, LookUp, Count}
+use Rattle.requests.specs.declared.request.Request.the-variants.{Count}
 use Rattle.rules.specs.declared.mode.Mode.{Mode}
-use Rattle.rules.specs.declared.mode.Mode.the-variants.{Between, From, Upto}
-use Rattle.rules.specs.Kinds.{Kinds, Lawful}
-use Rattle.rules.specs.States.{State, Slot, Place, Waiter, empty, holds, leads, opening}
+use Rattle.rules.specs.declared.mode.Mode.the-variants.{Between}
+use Rattle.rules.specs.Kinds.{Kinds}
+use Rattle.rules.specs.States.{State, Slot, Place, Waiter}
 use Rattle.rules.specs.Queues.{numbered, behind}
 use Rattle.rules.specs.Changes.{with-place, with-queue, with-waiter}
 use Rattle.rules.specs.Moves.{with-slot-on, side-of, with-tally, with-slot-for, with-joined, with-added}
@@ -28,7 +27,8 @@ betweens-behind : (t : ℕ) (q : List Waiter) → Betweens t q → Betweens t (b
 betweens-behind t [] b = tt
 betweens-behind t (e ∷ q) b = b .1
 
-betweens-joined : (t : ℕ) (q : List Waiter) (e : Waiter) → Betweens t q → (e .number ≡ t → e .mode ≡ Between) → Betweens t (q ++ (e ∷ []))
+betweens-joined : (t : ℕ) (q : List Waiter) (e : Waiter) → Betweens t q → (e .number ≡ t → e .mode ≡ Between)
+    → Betweens t (q ++ (e ∷ []))
 betweens-joined t [] e b h = (h, tt)
 betweens-joined t (x ∷ q) e b h = (b .0, betweens-joined t q e (b .1) h)
 
@@ -51,13 +51,11 @@ module _ {K T : Type 0} (w : Kinds K T) where
 
     -- a request joins a queue, a narrow count in mode between
     pub waiter-still : (s : State K T) (f t : ℕ) (m : Mode) → (Narrow t → m ≡ Between) → Still s → Still (with-waiter s f t m)
-    waiter-still s f t m h i = (
-      i .0,
-      λ t' n. (
-        i .1 t' n .0,
-        λ p. betweens-either t' (eqb p f) _ _ (betweens-joined t' (s .queue f) (record { number = t; mode = m }) (i .1 t' n .1 f) (λ e. h (subst Narrow (sym e) n))) (i .1 t' n .1 p),
-      ),
-    )
+    waiter-still s f t m h i = (i .0, λ t' n. (i .1 t' n .0, λ p. betweens-either t' (eqb p f) _ _ (joins t' n) (i .1 t' n .1 p)))
+      where
+        joins : (t' : ℕ) → Narrow t' → Betweens t' (s .queue f ++ (record { number = t; mode = m } ∷ []))
+        joins t' n =
+            betweens-joined t' (s .queue f) (record { number = t; mode = m }) (i .1 t' n .1 f) (λ e. h (subst Narrow (sym e) n))
 
     -- a head leaves
     pub behind-still : (s : State K T) (p : ℕ) → Still s → Still (with-queue s p (behind (s .queue p)))
@@ -81,7 +79,8 @@ module _ {K T : Type 0} (w : Kinds K T) where
         go (Some f) = i
 
     -- a count's tally is joined with a weight, a narrow one's with none
-    pub added-still : (s : State K T) (t : ℕ) (x : T) → (Narrow t → w .joined (s .counted t) x ≡ w .none) → Still s → Still (with-added w s t x)
+    pub added-still : (s : State K T) (t : ℕ) (x : T) → (Narrow t → w .joined (s .counted t) x ≡ w .none) → Still s
+        → Still (with-added w s t x)
     added-still s t x h i = (i .0, λ t' n. (go t' n (eqb t' t) refl, i .1 t' n .1))
       where
         go : (t' : ℕ) → Narrow t' → (b : Bool) → eqb t' t ≡ b → cond b (w .joined (s .counted t) x) (s .counted t') ≡ w .none

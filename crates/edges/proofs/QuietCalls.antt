@@ -14,7 +14,7 @@ use Rattle.keys.specs.declared.refusal.Refusal.{Refusal}
 use Rattle.requests.specs.declared.answer.Answer.{Answer}
 use Rattle.requests.specs.declared.answer.Answer.the-variants.{Counted}
 use Rattle.requests.specs.declared.request.Request.{Request}
-use Rattle.requests.specs.declared.request.Request.the-variants.{Enter, Withdraw, LookUp, Count}
+use Rattle.requests.specs.declared.request.Request.the-variants.{Count}
 use Rattle.rules.specs.declared.mode.Mode.the-variants.{Between}
 use Rattle.rules.specs.declared.note.Note.{Note}
 use Rattle.rules.specs.declared.note.Note.the-variants as note
@@ -56,7 +56,8 @@ module _ {K T : Type 0} (w : Kinds K T) (law : Lawful w) where
 
     taken-calm : (r : Request K) → Calm (taken s n r)
     taken-calm r t narrow =
-        waiter-still w (s .requests) s 0 (suc (given s)) Between (λ _. refl) still .1 t (λ lo hi e. narrow lo hi (numbered-front (s .requests) (r ∷ []) t (Count lo hi) e))
+        waiter-still w (s .requests) s 0 (suc (given s)) Between (λ _. refl) still .1 t
+        (λ lo hi e. narrow lo hi (numbered-front (s .requests) (r ∷ []) t (Count lo hi) e))
 
     -- the head of a queue is moved
     move-still : (p : ℕ) (e : Waiter) (q : List Waiter) (r : Request K) → s .queue p ≡ e ∷ q → numbered (s .requests) (e .number) ≡ Some r
@@ -114,7 +115,8 @@ module _ {K T : Type 0} (w : Kinds K T) (law : Lawful w) where
   call-calm s (submit n r) i = refused-or (submit-refusal w s n) s (taken s n r) i (taken-calm s n i r)
   call-calm s (follow n t) i = refused-or (follow-refusal w s n t) s _ i i
   call-calm s (carry n) i =
-      refused-or (carry-refusal w s n) s (carried w s n (s .desk n .note) .1) i (calm-by s (carried w s n (s .desk n .note) .1) (carried-still s n i (s .desk n .note)))
+      let new = carried w s n (s .desk n .note) .1 in
+      refused-or (carry-refusal w s n) s new i (calm-by s new (carried-still s n i (s .desk n .note)))
   call-calm s (collect n) i = collected-calm s n i (collect-answer w s n)
 
   calls-calm : (s : State K T) (cs : List (Call K)) → Calm s → Calm (after-all w s cs)

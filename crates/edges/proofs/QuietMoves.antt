@@ -1,12 +1,11 @@
 -- A moved request keeps the narrow counts quiet: a narrow count passes no place that would part its range.
-use mathlib.Core.Path.{_≡_, refl, ap, ap₂, sym, subst, _∙_}
+use mathlib.Core.Path.{_≡_, refl, ap₂, sym, subst, _∙_}
 use mathlib.Core.Bool.{Bool, true, false, not, cond}
 use mathlib.Core.List.{List, [], _∷_}
 use native.Mathlib.Omega.{arith}
 use Prim.Native.Nat.{ℕ, zero, suc}
 use Rattle.std.specs.declared.option.Option.{Option}
 use Rattle.std.specs.declared.option.Option.the-variants.{Some, None}
-use Rattle.requests.specs.declared.answer.Answer.the-variants.{Unchanged}
 use Rattle.requests.specs.declared.request.Request.{Request}
 use Rattle.requests.specs.declared.request.Request.the-variants.{Enter, Withdraw, LookUp, Count}
 use Rattle.rules.specs.declared.mode.Mode.{Mode}
@@ -14,8 +13,7 @@ use Rattle.rules.specs.declared.mode.Mode.the-variants.{Between, From, Upto}
 use Rattle.rules.specs.Kinds.{Kinds, Lawful, before}
 use Rattle.rules.specs.States.{State, Slot, Place, empty, holds, leads}
 use Rattle.rules.specs.Queues.{numbered}
-use Rattle.rules.specs.Changes.{with-answer}
-use Rattle.rules.specs.Moves.{Step, show, add, slot-on, is-present, count-steps, wanted, slot-for, with-slot-for, with-joined, whole, enter-at, withdraw-at, shown, stepped, stepped-all, count-at, acted}
+use Rattle.rules.specs.Moves.{Step, show, add, slot-on, is-present, count-steps, wanted, slot-for, with-joined, whole, enter-at, withdraw-at, shown, stepped, stepped-all, count-at, acted}
 use Rattle.edges.proofs.EmptyRange.{none-within}
 use Rattle.edges.proofs.Quiet.{Narrow, Still, waiter-still, slot-still, joined-still, added-still}
 
@@ -47,7 +45,8 @@ module _ {K T : Type 0} (w : Kinds K T) (law : Lawful w) (rs : List (Request K))
   Steps-allowed t lo hi [] = Unit {0}
   Steps-allowed t lo hi (x ∷ xs) = Step-allowed t lo hi x × Steps-allowed t lo hi xs
 
-  steps-still : (s : State K T) (t : ℕ) (lo hi : K) (f : Place K T) (xs : List Step) → Steps-allowed t lo hi xs → Still w rs s → Still w rs (stepped-all w s t lo hi f xs)
+  steps-still : (s : State K T) (t : ℕ) (lo hi : K) (f : Place K T) (xs : List Step) → Steps-allowed t lo hi xs → Still w rs s
+      → Still w rs (stepped-all w s t lo hi f xs)
   steps-still s t lo hi f [] a i = i
   steps-still s t lo hi f (show side m ∷ xs) a i =
       steps-still (shown w s t lo hi m (slot-on f side)) t lo hi f xs (a .1) (shown-still s t lo hi m (slot-on f side) (a .0) i)

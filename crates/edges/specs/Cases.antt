@@ -1,7 +1,7 @@
 -- The cases at the edges of the rules, for every kind of key and of tally. Each is a statement of its own;
 -- `Edge-cases` lists them, and a new case is a new line there.
 use mathlib.Core.Path.{_≡_}
-use mathlib.Core.Bool.{Bool, true, false}
+use mathlib.Core.Bool.{true, false}
 use mathlib.Core.List.{List, [], _∷_, _++_}
 use Prim.Native.Nat.{ℕ, _≤_}
 use Rattle.std.specs.declared.option.Option.the-variants.{Some}
@@ -91,12 +91,14 @@ module _ {K T : Type 0} (w : Kinds K T) where
   abbrev pub Lesser-second : Type 0
   Lesser-second =
       (cells : ℕ) (j k : K) → 2 ≤ cells → before w j k ≡ true
-      → Makes-place (run w cells (both k j)) (record { split = k; left = holds j; right = holds k; tally = w .joined (w .weighed k) (w .weighed j) })
+      → Makes-place (run w cells (both k j))
+        (record { split = k; left = holds j; right = holds k; tally = w .joined (w .weighed k) (w .weighed j) })
 
   abbrev pub Greater-second : Type 0
   Greater-second =
       (cells : ℕ) (j k : K) → 2 ≤ cells → before w j k ≡ true
-      → Makes-place (run w cells (both j k)) (record { split = k; left = holds j; right = holds k; tally = w .joined (w .weighed j) (w .weighed k) })
+      → Makes-place (run w cells (both j k))
+        (record { split = k; left = holds j; right = holds k; tally = w .joined (w .weighed j) (w .weighed k) })
 
   -- Undecided, as a request is that seeks a key: the first carry decides it, the second moves it.
   abbrev pub Seen-undecided : Type 0
@@ -123,6 +125,7 @@ module _ {K T : Type 0} (w : Kinds K T) where
       × (finished (run w cells (submit 1 (Enter k) ∷ follow 2 1 ∷ carry 2 ∷ follow 2 1 ∷ [])) 1 ≡ false)
       × (finished (run w cells (submit 1 (Enter k) ∷ help-twice 2 1)) 1 ≡ true)
 
+  -- all of them
   pub record Edge-cases : Type 0 where
     pub fresh-counts-zero : Fresh-counts-zero
     pub empty-range-is-zero : Empty-range-is-zero

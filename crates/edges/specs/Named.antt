@@ -1,6 +1,6 @@
 -- The cases that name routes and sections.
 use mathlib.Core.Path.{_≡_}
-use mathlib.Core.Bool.{Bool, true, false}
+use mathlib.Core.Bool.{true}
 use mathlib.Core.List.{List, []}
 use Prim.Native.Nat.{ℕ, _≤_}
 use lib.Chars.{codes}
@@ -106,8 +106,8 @@ Calls-that-suffice =
     × (enough routes-by-number 10 ≡ 175)
     × (enough routes-by-number 1024 ≡ 1575424)
 
+-- all of these, with the general cases at routes counted by number
 pub record Named-cases : Type 0 where
-  -- routes counted by number are one of the kinds for which all edge cases stand
   pub edges : Edge-cases routes-by-number
   pub twelve-twice : Twelve-twice
   pub twelve-in-and-out : Twelve-in-and-out

@@ -8,7 +8,7 @@ use Rattle.requests.specs.declared.answer.Answer.the-variants.{Changed}
 use Rattle.requests.specs.declared.request.Request.the-variants.{Enter}
 use Rattle.rules.specs.declared.carried.Carried.the-variants.{Decided, Moved}
 use Rattle.rules.specs.Calls.{submit, follow, carry, collect}
-use Rattle.edges.specs.Tables.{Line, _⟶_, reads, number, at, did, answer, refused, nothing, key}
+use Rattle.edges.specs.Tables.{Line, _⟶_, reads, number, at, did, answer, refused}
 use Rattle.edges.specs.Worked.{route}
 
 -- over one cell: a second request finds no room, even when the first is finished; reading off needs room for one key and one value

@@ -7,7 +7,7 @@ use Rattle.requests.specs.declared.answer.Answer.the-variants.{Changed, Unchang
 use Rattle.requests.specs.declared.request.Request.the-variants.{Enter, Withdraw, LookUp, Count}
 use Rattle.rules.specs.declared.carried.Carried.the-variants.{Late, Decided, Moved}
 use Rattle.rules.specs.Calls.{submit, follow, carry, collect}
-use Rattle.edges.specs.Tables.{Line, _⟶_, number, at, did, answer, refused, key}
+use Rattle.edges.specs.Tables.{Line, _⟶_, number, at, did, answer, refused}
 use Rattle.edges.specs.Worked.{route}
 
 -- one request, helped on by another station than its own

@@ -1,7 +1,6 @@
 -- Tables: lines of calls with what each answers, of readings off, and of drawings of the state. A table holds
 -- when doing its calls from the opening gives every line as it is written.
 use mathlib.Core.Path.{_≡_}
-use mathlib.Core.Bool.{Bool, true, false}
 use mathlib.Core.List.{List, [], _∷_}
 use Prim.Native.Nat.{ℕ, zero, suc}
 use Rattle.std.specs.declared.option.Option.the-variants.{Some, None}
@@ -34,6 +33,7 @@ pub data Drawing (K : Type 0) : Type 0 where
   -- the number, split, tally and queue of a place, its left and its right
   place : ℕ → K → ℕ → List Waiter → Drawing K → Drawing K → Drawing K
 
+-- a line of a table
 pub data Line (K : Type 0) : Type 0 where
   -- a call, and its answer
   _⟶_ : Call K → Reply → Line K
@@ -43,6 +43,7 @@ pub data Line (K : Type 0) : Type 0 where
   shows : List Waiter → Drawing K → Line K
 
 infix 70 _⟶_
+
 -- an answer with the value of its tally
 abbrev pub by-value : Answer Number → Answer ℕ
 by-value Changed = Changed
@@ -52,6 +53,7 @@ by-value Absent = Absent
 by-value (Counted tally) = Counted (tally .value)
 
 module _ {K : Type 0} (w : Kinds K Number) where
+  -- what the rules answer to a call
   abbrev pub reply : State K Number → Call K → Reply
   reply s (submit n r) = elim (submit-answer w s n r) [ Ok t ↦ number t | Err e ↦ refused e ]
   reply s (follow n t) = elim (follow-answer w s n t) [ Ok x ↦ at (x .0) (x .1) | Err e ↦ refused e ]
@@ -64,7 +66,10 @@ module _ {K : Type 0} (w : Kinds K Number) where
   drawn s depth (holds k) = key k
   drawn s zero (leads p) = nothing
   drawn s (suc depth) (leads p) =
-      elim (s .place p) [ None ↦ nothing | Some f ↦ place p (f .split) (f .tally .value) (s .queue p) (drawn s depth (f .left)) (drawn s depth (f .right)) ]
+      elim (s .place p) [
+        None ↦ nothing
+        | Some f ↦ place p (f .split) (f .tally .value) (s .queue p) (drawn s depth (f .left)) (drawn s depth (f .right))
+      ]
 
   -- a line, with what the rules give in place of what it says
   abbrev pub redone : State K Number → Line K → Line K
@@ -78,6 +83,7 @@ module _ {K : Type 0} (w : Kinds K Number) where
   past s (reads row work a) = s
   past s (shows q d) = s
 
+  -- all lines from a state on, each from where those before it lead
   abbrev pub redone-all : State K Number → List (Line K) → List (Line K)
   redone-all s [] = []
   redone-all s (l ∷ ls) = redone s l ∷ redone-all (past s l) ls

@@ -1,4 +1,5 @@
--- Turns that stations take at one place: a walk overtaken, the two halves of a count carried by two stations, several requests of one key in one queue.
+-- Turns that stations take at one place: a walk overtaken, the two halves of a count carried by two stations,
+-- several requests of one key in one queue.
 use mathlib.Core.List.{List, [], _∷_, _++_}
 use Rattle.std.specs.declared.result.Result.the-variants.{Ok}
 use Rattle.keys.specs.declared.class.Class.the-variants.{M, S}

@@ -9,6 +9,7 @@ use Rattle.edges.specs.Turns.{in-the-middle, walk-overtaken, walk-outlived, ha
 use Rattle.edges.specs.Rooms.{one-cell, no-cell}
 use Rattle.edges.specs.Pencil.{Pencil-agrees, one-key-by-hand, archive-by-hand}
 
+-- all of them
 pub record Vectors : Type 0 where
   pub helping : Holds routes-by-number 64 helping
   pub waiting : Holds routes-by-number 64 waiting

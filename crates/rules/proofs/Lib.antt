@@ -30,6 +30,11 @@ pub mod Holds
 pub mod MovedBy
 pub mod Interface
 pub mod Ways
+pub mod Standings
 pub mod Deeds
 pub mod Carrying
 pub mod Runs
+pub mod Potentials
+pub mod Lessens
+pub mod Finishes
+pub mod Measures

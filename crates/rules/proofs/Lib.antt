@@ -38,3 +38,4 @@ pub mod Potentials
 pub mod Lessens
 pub mod Finishes
 pub mod Measures
+pub mod Turns

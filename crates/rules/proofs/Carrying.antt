@@ -1,8 +1,8 @@
 -- A carry keeps the invariant, and does one of four deeds. Rests on Interface and Deeds.
 use mathlib.Core.Path.{_≡_, refl, sym, ap, subst, _∙_}
-use mathlib.Core.Bool.{Bool, true, false, cond, not, _&&_, _||_, true≢false}
-use mathlib.Core.List.{List, [], _∷_, _++_}
-use Prim.Native.Nat.{ℕ, zero, suc, _≤_, _<_}
+use mathlib.Core.Bool.{Bool, true, false, not, true≢false}
+use mathlib.Core.List.{List, [], _∷_}
+use Prim.Native.Nat.{ℕ, zero, suc, _≤_}
 use native.Mathlib.Omega.{arith}
 use lib.Dec.{eqb, leb}
 use lib.ListN.{length}
@@ -15,7 +15,7 @@ use Rattle.rules.specs.declared.carried.Carried.{Carried}
 use Rattle.rules.specs.declared.note.Note.{Note}
 use Rattle.rules.specs.declared.note.Note.the-variants as note
 use Rattle.rules.specs.Kinds.{Kinds, same}
-use Rattle.rules.specs.States.{State, Slot, Waiter, Desk, empty, holds, leads}
+use Rattle.rules.specs.States.{State, Slot, Waiter, empty, holds, leads}
 use Rattle.rules.specs.Queues.{numbered, heads}
 use Rattle.rules.specs.Changes.{with-note, with-decision}
 use Rattle.rules.specs.Moves.{slot-for}
@@ -25,7 +25,6 @@ use Rattle.rules.proofs.Bools.{both-true}
 use Rattle.rules.proofs.Befores.{was}
 use Rattle.rules.proofs.Trees.{Tree}
 use Rattle.rules.proofs.Holds.{Walks, Holds}
-use Rattle.rules.proofs.MovedBy.{Moved-by}
 use Rattle.rules.proofs.Interface.{Stepper}
 use Rattle.rules.proofs.Ways.{walk-place}
 use Rattle.rules.proofs.Standings.{turn-head}

@@ -5,7 +5,6 @@ use mathlib.Core.List.{List, [], _∷_}
 use mathlib.Core.Logic.{⊎-elim}
 use Prim.Native.Nat.{ℕ, zero, suc, _+_, _≤_, _<_}
 use native.Mathlib.Omega.{arith}
-use lib.Dec.{leb}
 use lib.ListN.{length}
 use Rattle.std.specs.Options.{isSome}
 use Rattle.std.specs.declared.option.Option.{Option}
@@ -20,7 +19,7 @@ use Rattle.rules.proofs.Trees.{Tree, inside}
 use Rattle.rules.proofs.Goods.{Lined}
 use Rattle.rules.proofs.Pends.{waiting}
 use Rattle.rules.proofs.Visits.{reach, unmade, visits, waiting-before, reach-some, reach-short}
-use Rattle.rules.proofs.Holds.{In-turn, Everywhere, Holds}
+use Rattle.rules.proofs.Holds.{Everywhere, Holds}
 use Rattle.rules.proofs.Ways.{inside-before}
 use Rattle.rules.proofs.Standings.{lowest-passes, lowest-some, turn-end, turn-head, turn-between, turn-stands, lined-head, drawn-waits, waits-drawn, drawn-lined}
 

@@ -1,14 +1,13 @@
 -- The station's own turns lower the potential, and its bounds. Rests on Potentials.
-use mathlib.Core.Path.{_≡_, refl, sym, ap, _∙_}
-use mathlib.Core.Bool.{Bool, true, false, cond, true≢false}
-use Prim.Native.Nat.{ℕ, zero, suc, _+_, _*_, _-_, _/_, _≤_, _<_}
+use mathlib.Core.Path.{_≡_, refl}
+use mathlib.Core.Bool.{Bool, true, false, cond}
+use Prim.Native.Nat.{ℕ, suc, _+_, _*_, _-_, _/_, _≤_, _<_}
 use native.Mathlib.Omega.{arith}
-use lib.Dec.{eqb}
 use Rattle.std.proofs.shelf.Tests.{eq-eqb}
 use Rattle.rules.specs.declared.note.Note.{Note}
 use Rattle.rules.specs.declared.note.Note.the-variants as note
-use Rattle.rules.proofs.Bounds.{sum-to, sum-mono, sum-one, sum-enough}
-use Rattle.rules.proofs.Potentials.{to-go, burden, term, potential, No-more, None-opens, cond-less, all-less, one-falls, walk-here, walk-away}
+use Rattle.rules.proofs.Bounds.{sum-mono, sum-one, sum-enough}
+use Rattle.rules.proofs.Potentials.{term, potential, No-more, None-opens, cond-less, all-less, one-falls, walk-away}
 
 -- without a note the potential is at most the sum that is enough
 pub at-start : (v : ℕ → ℕ) (o : ℕ → Bool) (h : ℕ → ℕ → Bool) (t : ℕ) → ((i : ℕ) → v i ≤ i) → potential v o h note.None t ≤ suc (3 * t * (t + 1) / 2 + t)

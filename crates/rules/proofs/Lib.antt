@@ -39,3 +39,4 @@ pub mod Lessens
 pub mod Finishes
 pub mod Measures
 pub mod Turns
+pub mod Service

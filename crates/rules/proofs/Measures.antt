@@ -1,9 +1,9 @@
 -- The potential of a state, and what no call does to it: raise visits, reopen decisions, or take a head away that has not moved. Rests on Falls and Runs.
-use mathlib.Core.Path.{_≡_, refl, sym, ap, subst, _∙_}
+use mathlib.Core.Path.{_≡_, sym, ap, subst, _∙_}
 use mathlib.Core.Bool.{Bool, true, false, cond, not, _&&_, true≢false}
 use mathlib.Core.List.{List, [], _∷_, _++_}
 use mathlib.Core.Logic.{_⊎_, inl, inr, ⊎-elim}
-use Prim.Native.Nat.{ℕ, zero, suc, _+_, _≤_, _<_}
+use Prim.Native.Nat.{ℕ, suc, _+_, _≤_}
 use native.Mathlib.Omega.{arith}
 use lib.Dec.{eqb, leb}
 use lib.ListN.{length, length-append}
@@ -15,14 +15,14 @@ use Rattle.requests.specs.declared.request.Request.{Request}
 use Rattle.rules.specs.declared.note.Note.{Note}
 use Rattle.rules.specs.declared.note.Note.the-variants as note
 use Rattle.rules.specs.Kinds.{Kinds}
-use Rattle.rules.specs.States.{State, Waiter, Desk}
+use Rattle.rules.specs.States.{State, Waiter}
 use Rattle.rules.specs.Queues.{numbered, heads, given}
 use Rattle.rules.specs.Changes.{put, with-note, with-decision}
 use Rattle.rules.proofs.Bools.{both-true}
 use Rattle.rules.proofs.Times.{numbered-append}
 use Rattle.rules.proofs.Trees.{Tree}
 use Rattle.rules.proofs.Goods.{Over, Good}
-use Rattle.rules.proofs.Puts.{put-here, put-other}
+use Rattle.rules.proofs.Puts.{put-other}
 use Rattle.rules.proofs.Visits.{visits}
 use Rattle.rules.proofs.Falls.{Stays, Falls, visits-others, visits-mover, gate-others, gate-mover}
 use Rattle.rules.proofs.Holds.{Everywhere, Holds}

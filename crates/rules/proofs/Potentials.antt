@@ -1,14 +1,14 @@
 -- The potential of a station's service, as a number: what it weighs, and what makes it fall. Rests on Bounds.
-use mathlib.Core.Path.{_≡_, refl, sym, ap, _∙_}
+use mathlib.Core.Path.{_≡_, refl, sym, _∙_}
 use mathlib.Core.Bool.{Bool, true, false, cond, true≢false}
 use mathlib.Core.Logic.{_⊎_, ⊎-elim}
-use Prim.Native.Nat.{ℕ, zero, suc, _+_, _*_, _-_, _≤_, _<_}
+use Prim.Native.Nat.{ℕ, suc, _+_, _*_, _-_, _≤_, _<_}
 use native.Mathlib.Omega.{arith}
 use lib.Dec.{eqb}
-use Rattle.std.proofs.shelf.Tests.{eq-eqb, ne-eqb, cases-bool}
+use Rattle.std.proofs.shelf.Tests.{eq-eqb, ne-eqb}
 use Rattle.rules.specs.declared.note.Note.{Note}
 use Rattle.rules.specs.declared.note.Note.the-variants as note
-use Rattle.rules.proofs.Bounds.{sum-to, sum-mono, sum-fall, sum-one, sum-enough}
+use Rattle.rules.proofs.Bounds.{sum-to, sum-mono, sum-fall}
 
 -- how many calls it takes at most to decide request r, by the note
 abbrev pub to-go : Note → ℕ → ℕ
@@ -55,9 +55,6 @@ pub one-falls : (v v′ : ℕ → ℕ) (o o′ : ℕ → Bool) (old new : Note) 
     → sum-to (term v′ o′ new) t + d ≤ sum-to (term v o old) t
 one-falls v v′ o o′ old new t r d lo hi a b c e =
     sum-fall (term v o old) (term v′ o′ new) t r d lo hi (λ i l m ne. term-less v v′ o o′ old new i (a i l m) (b i l m) (c i ne)) e
-
-pub walk-here : (r p : ℕ) → to-go (note.Walk r p) r ≡ r - p
-walk-here r p = rw (eq-eqb r r refl)
 
 pub walk-away : (r p i : ℕ) → (i ≡ r → ⊥) → to-go (note.Walk r p) i ≡ suc i
 walk-away r p i ne = rw (ne-eqb r i (λ e. ne (sym e)))

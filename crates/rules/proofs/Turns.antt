@@ -1,23 +1,21 @@
 -- A turn of the serving station lowers the potential, and no call of another raises it. Rests on Measures and Lessens.
 use mathlib.Core.Path.{_≡_, refl, sym, ap, subst, _∙_}
-use mathlib.Core.Bool.{Bool, true, false, cond, not, _&&_, true≢false}
-use mathlib.Core.List.{List, [], _∷_}
-use mathlib.Core.Logic.{_⊎_, inl, inr, ⊎-elim}
-use Prim.Native.Nat.{ℕ, zero, suc, _≤_, _<_}
+use mathlib.Core.Bool.{Bool, true, false, not, _&&_, true≢false}
+use mathlib.Core.List.{List}
+use Prim.Native.Nat.{ℕ, suc, _≤_, _<_}
 use native.Mathlib.Omega.{arith}
-use lib.Dec.{eqb, leb}
-use lib.ListN.{length}
+use lib.Dec.{leb}
 use Rattle.std.specs.Options.{isSome}
 use Rattle.std.specs.declared.option.Option.{Option}
 use Rattle.std.specs.declared.option.Option.the-variants.{Some, None}
-use Rattle.std.proofs.shelf.Tests.{eq-eqb, and-parts, and-right}
+use Rattle.std.proofs.shelf.Tests.{and-parts, and-right}
 use Rattle.requests.specs.declared.request.Request.{Request}
 use Rattle.rules.specs.declared.note.Note.{Note}
 use Rattle.rules.specs.declared.note.Note.the-variants as note
 use Rattle.rules.specs.Kinds.{Kinds}
 use Rattle.rules.specs.States.{State}
 use Rattle.rules.specs.Queues.{numbered, heads, given}
-use Rattle.rules.specs.Changes.{put, with-note, with-decision}
+use Rattle.rules.specs.Changes.{with-note, with-decision}
 use Rattle.rules.specs.Calls.{has-note}
 use Rattle.rules.proofs.Bools.{false-unless}
 use Rattle.rules.proofs.Times.{numbered-some}

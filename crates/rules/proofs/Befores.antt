@@ -50,13 +50,17 @@ module _ {K T : Type 0} (w : Kinds K T) (l : Lawful w) (rs : List (Request K)) w
   pub unmoved-silent : (t : ℕ) (r : Request K) (k : K) → numbered rs t ≡ Some r → says w k r ≡ None → Unmoved w rs t k
   unmoved-silent t r k e none = was-next t r k e ∙ ap (λ v. told w v (was w rs t k)) none
 
-  pub was-still : (test : K → Bool) (a b : ℕ) → a ≤ b → Still w rs test a b → (k : K) → test k ≡ true → was w rs b k ≡ was w rs a k
-  was-still test a zero h q k t = let none : 0 ≡ a = omega arith in ap (λ i. was w rs i k) none
-  was-still test a (suc b) h q k t =
+  -- a key that no request of a stretch changes is as it was
+  pub was-steady : (k : K) (a b : ℕ) → a ≤ b → ((i : ℕ) → a ≤ i → i < b → Unmoved w rs i k) → was w rs b k ≡ was w rs a k
+  was-steady k a zero h q = let none : 0 ≡ a = omega arith in ap (λ i. was w rs i k) none
+  was-steady k a (suc b) h q =
       ⊎-elim
-      (λ lt. q b (omega arith) (omega arith) k t ∙ was-still test a b (omega arith) (λ i u v. q i u (omega arith)) k t)
+      (λ lt. q b (omega arith) (omega arith) ∙ was-steady k a b (omega arith) (λ i u v. q i u (omega arith)))
       (λ ge. let all : suc b ≡ a = omega arith in ap (λ i. was w rs i k) all)
       (cases-lt a (suc b))
+
+  pub was-still : (test : K → Bool) (a b : ℕ) → a ≤ b → Still w rs test a b → (k : K) → test k ≡ true → was w rs b k ≡ was w rs a k
+  was-still test a b h q k t = was-steady k a b h (λ i u v. q i u v k t)
 
   pub weight-still : (test : K → Bool) (a b : ℕ) → a ≤ b → Still w rs test a b → weight-before w test rs b ≡ weight-before w test rs a
   weight-still test a b h q =

@@ -43,6 +43,14 @@ pub or-neither : (a b : Bool) → a ≡ false → b ≡ false → (a || b) ≡ f
 or-neither true b p q = p
 or-neither false b p q = q
 
+pub and-first : (a b : Bool) → (a && b) ≡ true → a ≡ true
+and-first true b e = refl
+and-first false b e = e
+
+pub and-second : (a b : Bool) → (a && b) ≡ true → b ≡ true
+and-second true b e = e
+and-second false b e = absurd (true≢false (sym e))
+
 pub not-and : (b : Bool) → (not b && b) ≡ false
 not-and true = refl
 not-and false = refl

@@ -61,6 +61,7 @@ module _ {K T : Type 0} (w : Kinds K T) (rs : List (Request K)) where
     pub good : Good w rs Everywhere time x
     -- a decision says what was, and only requests at the gate have none
     pub decided : (i : ℕ) (r : Request K) (k : K) → numbered rs i ≡ Some r → sought r ≡ Some k → (s .decision i ≡ Some (was w rs i k)) ⊎ ((s .decision i ≡ None) × (time ≤ i))
+    pub unasked : (i : ℕ) → length rs < i → s .decision i ≡ None
     -- who has passed the gate and waits no more is answered
     pub answers : (i : ℕ) (r : Request K) → numbered rs i ≡ Some r → i < time → waiting i x ≡ false → Bears s i r
     -- a count has added all that it does not still have to add

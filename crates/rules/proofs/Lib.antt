@@ -28,6 +28,14 @@ pub mod Falls
 pub mod Bounds
 pub mod Holds
 pub mod MovedBy
+pub mod Tames
+pub mod Unmade
+pub mod Descents
+pub mod Gates
+pub mod Passing
+pub mod Keeps
+pub mod Submits
+pub mod Tells
 pub mod Interface
 pub mod Ways
 pub mod Standings
@@ -40,3 +48,6 @@ pub mod Finishes
 pub mod Measures
 pub mod Turns
 pub mod Service
+pub mod Instance
+pub mod Finals
+pub mod Listing

@@ -181,12 +181,12 @@ module _ {K T : Type 0} (w : Kinds K T) (l : Lawful w) (s : State K T) (p₀ : �
 module _ {K T : Type 0} (w : Kinds K T) (l : Lawful w) (s : State K T) (p₀ : ℕ) (e : Waiter) (q : List Waiter) (line : s .queue (suc p₀) ≡ e ∷ q)
     (R : K → Bool) (now : ℕ) (sp : K) (tally : T) (a b : Tree K T)
     (n : now ≤ suc (length (s .requests))) (g : Good w (s .requests) R now (node (suc p₀) sp tally (e ∷ q) a b)) (d : Drawn (s .place) (s .queue) (node (suc p₀) sp tally (e ∷ q) a b)) where
-  abbrev Moves-at : State K T → Request K → Type 0
+  abbrev pub Moves-at : State K T → Request K → Type 0
   Moves-at s′ r = Leaves w l s p₀ e q line s′ r R now (node (suc p₀) sp tally (e ∷ q) a b) (moved-node w r (node (suc p₀) sp tally (e ∷ q) a b))
 
   module _ (k : K) (num : numbered (s .requests) (e .number) ≡ Some (Enter k)) (absent : was w (s .requests) (e .number) k ≡ false)
       (undone : is-present (s .decision (e .number)) ≡ false) (none : s .queue (e .number) ≡ []) where
-    enter-leaves : Moves-at (moved w s (suc p₀) e (Enter k)) (Enter k)
+    pub enter-leaves : Moves-at (moved w s (suc p₀) e (Enter k)) (Enter k)
     enter-leaves =
         subst (λ st. Moves-at st (Enter k)) (sym same-state)
         (scalar-leaves w l s p₀ e q line (Enter k) num R now sp tally a b n g d σ (enter-child w (e .number) k x) s′ (hung-by w l s p₀ e q line (Enter k) num R now sp tally a b n g d (enter-child w (e .number) k) (before w k sp)) meets changes (λ lo hi no. let z : _≡_ {A = ℕ} 0 1 = cc in omega arith))
@@ -217,7 +217,7 @@ module _ {K T : Type 0} (w : Kinds K T) (l : Lawful w) (s : State K T) (p₀ : �
 
   module _ (k : K) (num : numbered (s .requests) (e .number) ≡ Some (Withdraw k)) (here : R k ≡ true) (there : was w (s .requests) (e .number) k ≡ true)
       (undone : is-present (s .decision (e .number)) ≡ true) where
-    withdraw-leaves : Moves-at (moved w s (suc p₀) e (Withdraw k)) (Withdraw k)
+    pub withdraw-leaves : Moves-at (moved w s (suc p₀) e (Withdraw k)) (Withdraw k)
     withdraw-leaves =
         subst (λ st. Moves-at st (Withdraw k)) (sym same-state)
         (scalar-leaves w l s p₀ e q line (Withdraw k) num R now sp tally a b n g d σ (withdraw-child w (e .number) k x) s′ (hung-by w l s p₀ e q line (Withdraw k) num R now sp tally a b n g d (withdraw-child w (e .number) k) (before w k sp)) meets changes (λ lo hi no. let z : _≡_ {A = ℕ} 0 1 = cc in omega arith))
@@ -255,7 +255,7 @@ module _ {K T : Type 0} (w : Kinds K T) (l : Lawful w) (s : State K T) (p₀ : �
             ∙ withdrawn-is w (s .requests) s₁ (suc p₀) write (e .number) k (λ y. with-slot-for-made w s₁ p₀ k y (drawn-place sp tally a b) (d .0)) x drawn
 
   module _ (lo hi : K) (num : numbered (s .requests) (e .number) ≡ Some (Count lo hi)) (fit : Mode-fits w R lo hi (e .mode)) where
-    count-leaves : Moves-at (moved w s (suc p₀) e (Count lo hi)) (Count lo hi)
+    pub count-leaves : Moves-at (moved w s (suc p₀) e (Count lo hi)) (Count lo hi)
     count-leaves = subst (λ st. Moves-at st (Count lo hi)) (sym same-state) (leaves w l s p₀ e q line (Count lo hi) num R now sp tally a b n g d s′ new (inr tt) sums)
       where
         s₁ : State K T

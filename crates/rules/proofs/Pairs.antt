@@ -48,17 +48,17 @@ module _ {K T : Type 0} (w : Kinds K T) where
       node p s t q (moved-pair r (e .number) (e .mode) s a b .0) (moved-pair r (e .number) (e .mode) s a b .1)
 
 -- children keep or get a number above p
-over-enter : {K T : Type 0} (w : Kinds K T) (p t : ℕ) (k : K) (x : Tree K T) → p < t → Over p x → Over p (enter-child w t k x)
+pub over-enter : {K T : Type 0} (w : Kinds K T) (p t : ℕ) (k : K) (x : Tree K T) → p < t → Over p x → Over p (enter-child w t k x)
 over-enter w p t k bare h o = tt
 over-enter w p t k (leaf j) h o = h
 over-enter w p t k (node f s u q a b) h o = o
 
-over-withdraw : {K T : Type 0} (w : Kinds K T) (p t : ℕ) (k : K) (x : Tree K T) → Over p x → Over p (withdraw-child w t k x)
+pub over-withdraw : {K T : Type 0} (w : Kinds K T) (p t : ℕ) (k : K) (x : Tree K T) → Over p x → Over p (withdraw-child w t k x)
 over-withdraw w p t k bare o = tt
 over-withdraw w p t k (leaf j) o = tt
 over-withdraw w p t k (node f s u q a b) o = o
 
-over-count : {K T : Type 0} (w : Kinds K T) (p t : ℕ) (m : Mode) (x : Tree K T) → Over p x → Over p (count-child w t m x)
+pub over-count : {K T : Type 0} (w : Kinds K T) (p t : ℕ) (m : Mode) (x : Tree K T) → Over p x → Over p (count-child w t m x)
 over-count w p t m bare o = tt
 over-count w p t m (leaf j) o = tt
 over-count w p t m (node f s u q a b) o = o

@@ -1,0 +1,10 @@
+pub mod Pieces
+pub mod Room
+pub mod FirstRequest
+pub mod OneKey
+pub mod TwoKeys
+pub mod EmptyRange
+pub mod Quiet
+pub mod QuietMoves
+pub mod QuietCalls
+pub mod Cases

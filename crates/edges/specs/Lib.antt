@@ -1,0 +1,12 @@
+pub mod Tables
+pub mod Worked
+pub mod Helping
+pub mod Waiting
+pub mod Forking
+pub mod Small
+pub mod Turns
+pub mod Rooms
+pub mod Pencil
+pub mod Vectors
+pub mod Cases
+pub mod Named

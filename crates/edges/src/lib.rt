@@ -1,0 +1,28 @@
+// The cases that settle the rules at their edges, and the worked runs: each a statement about the rules, promised here.
+ghost use Rattle.rules.specs.Kinds.{kinds-of};
+ghost use Rattle.edges.specs.Cases.{Edge-cases};
+ghost use Rattle.edges.specs.Named.{Named-cases};
+ghost use Rattle.edges.specs.Vectors.{Vectors};
+use keys::Key;
+use keys::Route;
+use keys::RouteKey;
+use tallies::Number;
+use tallies::NumberTally;
+use tallies::Tally;
+
+// The edge cases stand for every kind of key and of tally.
+pub fn edges_stand<K: Key, T: Tally<K>>()
+    ensures { λ _. ⌜ Edge-cases (kinds-of K·Key T·Tally) ⌝ }
+{}
+
+// The cases that name routes and sections stand; the general ones are called on for routes counted by number.
+pub fn named_stand()
+    ensures { λ _. ⌜ Named-cases ⌝ }
+{
+    edges_stand::<Route, Number>();
+}
+
+// The worked runs come out line by line as they are written.
+pub fn vectors_stand()
+    ensures { λ _. ⌜ Vectors ⌝ }
+{}

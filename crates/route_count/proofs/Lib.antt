@@ -1,0 +1,4 @@
+pub mod Fronts
+pub mod Joinings
+pub mod Pages
+pub mod Meanings

@@ -1,0 +1,4 @@
+pub mod Figures
+pub mod Letters
+pub mod Lines
+pub mod Meaning

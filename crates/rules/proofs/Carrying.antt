@@ -1,8 +1,8 @@
 -- A carry keeps the invariant, and does one of four deeds. Rests on Interface and Deeds.
 use mathlib.Core.Path.{_≡_, refl, sym, ap, subst, _∙_}
-use mathlib.Core.Bool.{Bool, true, false, cond, not, _&&_, _||_, true≢false}
-use mathlib.Core.List.{List, [], _∷_, _++_}
-use Prim.Native.Nat.{ℕ, zero, suc, _≤_, _<_}
+use mathlib.Core.Bool.{Bool, true, false, not, true≢false}
+use mathlib.Core.List.{List, [], _∷_}
+use Prim.Native.Nat.{ℕ, zero, suc, _≤_}
 use native.Mathlib.Omega.{arith}
 use lib.Dec.{eqb, leb}
 use lib.ListN.{length}
@@ -15,7 +15,7 @@ use Rattle.rules.specs.declared.carried.Carried.{Carried}
 use Rattle.rules.specs.declared.note.Note.{Note}
 use Rattle.rules.specs.declared.note.Note.the-variants as note
 use Rattle.rules.specs.Kinds.{Kinds, same}
-use Rattle.rules.specs.States.{State, Slot, Waiter, Desk, empty, holds, leads}
+use Rattle.rules.specs.States.{State, Slot, Waiter, empty, holds, leads}
 use Rattle.rules.specs.Queues.{numbered, heads}
 use Rattle.rules.specs.Changes.{with-note, with-decision}
 use Rattle.rules.specs.Moves.{slot-for}
@@ -24,21 +24,14 @@ use Rattle.rules.specs.Carries.{sought, last-word, carried, late, saw, walk, l
 use Rattle.rules.proofs.Bools.{both-true}
 use Rattle.rules.proofs.Befores.{was}
 use Rattle.rules.proofs.Trees.{Tree}
-use Rattle.rules.proofs.Holds.{In-turn, Walks, Holds}
-use Rattle.rules.proofs.MovedBy.{Moved-by}
+use Rattle.rules.proofs.Holds.{Walks, Holds}
 use Rattle.rules.proofs.Interface.{Stepper}
 use Rattle.rules.proofs.Ways.{walk-place}
+use Rattle.rules.proofs.Standings.{turn-head}
 use Rattle.rules.proofs.Deeds.{wants, undecided, Lapsed, Seeks, Nears, Deed, lapsed, decided, walked, moved}
 
--- the head of a row of numbers in turn is the first
-pub turn-head : (lo : ℕ) (q : List Waiter) (hi : ℕ) (e : Waiter) (es : List Waiter) → In-turn lo q hi → q ≡ e ∷ es → e .number ≡ lo
-turn-head lo q hi e es t eq = let u : In-turn lo (e ∷ es) hi = subst (λ v. In-turn lo v hi) eq t in u .0
-
--- a note that is no walk
-abbrev pub Still-none : Type 0
-Still-none = (t p : ℕ) → note.None ≡ note.Walk t p → ⊥
-
-pub still-none : Still-none
+-- no note is no walk
+still-none : (t p : ℕ) → note.None ≡ note.Walk t p → ⊥
 still-none t p e = let z : _≡_ {A = ℕ} 0 1 = cc in omega arith
 
 module _ {K T : Type 0} (w : Kinds K T) (step : Stepper w) (rs : List (Request K)) (s : State K T) (x : Tree K T) (time : ℕ) (h : Holds w rs s x time) (n : ℕ) where

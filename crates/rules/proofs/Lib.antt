@@ -38,9 +38,16 @@ pub mod Submits
 pub mod Tells
 pub mod Interface
 pub mod Ways
+pub mod Standings
 pub mod Deeds
 pub mod Carrying
 pub mod Runs
+pub mod Potentials
+pub mod Lessens
+pub mod Finishes
+pub mod Measures
+pub mod Turns
+pub mod Service
 pub mod Instance
 pub mod Finals
 pub mod Listing

@@ -1,8 +1,7 @@
 -- Every call keeps the invariant, so every run of calls has it. Rests on Carrying.
-use mathlib.Core.Path.{_≡_, refl, sym, ap, subst, _∙_}
-use mathlib.Core.Bool.{Bool, true, false, cond}
+use mathlib.Core.Path.{_≡_, refl, sym, subst}
 use mathlib.Core.List.{List, [], _∷_, _++_}
-use Prim.Native.Nat.{ℕ, zero, suc}
+use Prim.Native.Nat.{ℕ, suc}
 use native.Mathlib.Omega.{arith}
 use Rattle.std.specs.declared.option.Option.{Option}
 use Rattle.std.specs.declared.option.Option.the-variants.{Some, None}
@@ -36,6 +35,15 @@ module _ {K T : Type 0} where
     submitted : (r : Request K) → s′ ≡ joined-by s n r → y ≡ x → time′ ≡ time → Doing n s s′ x y time time′
     desked : (d : Desk) → s′ ≡ with-desk s n d → y ≡ x → time′ ≡ time → Doing n s s′ x y time time′
     carried : Deed s s′ x y time time′ n (s .desk n .note) → Doing n s s′ x y time time′
+
+module _ {K T : Type 0} (w : Kinds K T) where
+  -- a state with the invariant, of the requests that were submitted in it
+  abbrev pub Held : State K T → Type 0
+  Held s = (rs : List (Request K)) × (x : Tree K T) × (time : ℕ) × Holds w rs s x time
+
+  -- the requests of the invariant are those of the state
+  pub own-requests : (s : State K T) → Held s → (x : Tree K T) × (time : ℕ) × Holds w (s .requests) s x time
+  own-requests s h = (h .1, h .2, subst (λ rs. Holds w rs s (h .1) (h .2)) (sym (h .3 .requests)) (h .3))
 
 module _ {K T : Type 0} (w : Kinds K T) (step : Stepper w) where
   module _ (rs : List (Request K)) (s : State K T) (x : Tree K T) (time : ℕ) (h : Holds w rs s x time) where
@@ -75,22 +83,14 @@ module _ {K T : Type 0} (w : Kinds K T) (step : Stepper w) where
     call-does (carry n) = by-note n (carry-refusal w s n)
     call-does (collect n) = collects n (collect-answer w s n)
 
-  -- a state with the invariant, of the requests that were submitted in it
-  abbrev pub Held : State K T → Type 0
-  Held s = (rs : List (Request K)) × (x : Tree K T) × (time : ℕ) × Holds w rs s x time
-
-  pub holds-after : (s : State K T) → Held s → (c : Call K) → Held (after w s c)
+  pub holds-after : (s : State K T) → Held w s → (c : Call K) → Held w (after w s c)
   holds-after s h c =
       let d = call-does (h .0) s (h .1) (h .2) (h .3) c in (d .0, d .1, d .2, d .3)
 
-  pub holds-after-all : (s : State K T) → Held s → (cs : List (Call K)) → Held (after-all w s cs)
+  pub holds-after-all : (s : State K T) → Held w s → (cs : List (Call K)) → Held w (after-all w s cs)
   holds-after-all s h [] = h
   holds-after-all s h (c ∷ cs) = holds-after-all (after w s c) (holds-after s h c) cs
 
   -- every state that calls lead to from the opening has the invariant
-  pub run-holds : (cells : ℕ) (cs : List (Call K)) → Held (run w cells cs)
+  pub run-holds : (cells : ℕ) (cs : List (Call K)) → Held w (run w cells cs)
   run-holds cells cs = holds-after-all (opening w cells) ([], bare, 1, step .opens cells) cs
-
-  -- the requests of the invariant are those of the state
-  pub own-requests : (s : State K T) → Held s → (x : Tree K T) × (time : ℕ) × Holds w (s .requests) s x time
-  own-requests s h = (h .1, h .2, subst (λ rs. Holds w rs s (h .1) (h .2)) (sym (h .3 .requests)) (h .3))

@@ -1,19 +1,15 @@
 -- The place of a walk: it hangs in the tree, and was made before the request that seeks its decision. Rests on Holds and Insides.
-use mathlib.Core.Path.{_≡_, refl, sym, ap, _∙_}
-use mathlib.Core.Bool.{Bool, true, false, cond, not, _&&_, _||_, true≢false}
-use mathlib.Core.List.{List, [], _∷_}
+use mathlib.Core.Path.{_≡_, sym}
+use mathlib.Core.Bool.{Bool, true, false, cond, _||_, true≢false}
+use mathlib.Core.List.{List}
 use mathlib.Core.Logic.{⊎-elim}
-use Prim.Native.Nat.{ℕ, zero, suc, _≤_, _<_}
+use Prim.Native.Nat.{ℕ, _<_}
 use native.Mathlib.Omega.{arith}
 use lib.Dec.{eqb}
-use lib.ListN.{length}
-use Rattle.std.specs.declared.option.Option.{Option}
-use Rattle.std.specs.declared.option.Option.the-variants.{Some, None}
 use Rattle.std.proofs.shelf.Tests.{eq-eqb}
 use Rattle.requests.specs.declared.request.Request.{Request}
 use Rattle.rules.specs.Kinds.{Kinds, before}
-use Rattle.rules.specs.States.{State, Waiter}
-use Rattle.rules.specs.Queues.{numbered}
+use Rattle.rules.specs.States.{State}
 use Rattle.rules.proofs.Bools.{or-left, or-right, bool-case}
 use Rattle.rules.proofs.Trees.{Tree, bare, leaf, node, inside}
 use Rattle.rules.proofs.Goods.{below, left-of, right-of, Good}

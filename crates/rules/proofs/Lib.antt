@@ -51,3 +51,4 @@ pub mod Service
 pub mod Instance
 pub mod Finals
 pub mod Listing
+pub mod Registers

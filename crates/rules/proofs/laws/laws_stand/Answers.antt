@@ -1,0 +1,19 @@
+-- The laws of the kinds are those of their traits.
+use Rattle.rules.specs.Kinds.{kinds-of}
+use Rattle.rules.proofs.Registers.{register-laws}
+use Rattle.rules.proofs.laws.laws_stand.Needs as need
+
+pub returns : need.returns
+returns g c =
+    let k = g .K·Key·met in
+    let t = g .T·Tally·met in
+    register-laws (kinds-of (g .K·Key) (g .T·Tally)) (record {
+      reflexive = k .reflexive;
+      total = k .total;
+      transitive = k .transitive;
+      antisymmetric = k .antisymmetric;
+      associative = t .associative;
+      commutative = t .commutative;
+      neutral = t .neutral;
+      cancelling = t .cancelling
+    })

@@ -1,15 +1,28 @@
 // Making sections, reading their names, and their order.
 ghost use mathlib.Core.Path.{_≡_};
-ghost use Rattle.keys.specs.Names.{name-in};
+ghost use Prim.Native.Nat.{_≤_};
+ghost use lib.ListN.{length};
+ghost use Rattle.keys.specs.Names.{filled, name-in};
 ghost use Rattle.keys.specs.Sections.{section-le, section-made, section-of};
 use super::super::key::Key;
 use super::super::refusal::Refusal;
 use super::Section;
 use super::names::LONGEST_NAME;
-use super::names::fill;
 use super::names::is_name;
 use super::names::is_section;
 use bytes::before;
+
+// The eight bytes of a name.
+fn fill(name: &[u8]) -> [u8; 8]
+    requires { ⌜ length (now name) ≤ 8 ⌝ }
+    ensures { λ r. ⌜ r ≡ filled (now (name .entry)) ⌝ }
+{
+    let mut bytes = [0u8; LONGEST_NAME];
+    for (i, byte) in name.iter().enumerate() {
+        bytes[i] = *byte;
+    }
+    bytes
+}
 
 impl Section {
     // The section of this name, where it is one.

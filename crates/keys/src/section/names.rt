@@ -1,8 +1,6 @@
 // Names of track sections and the eight bytes that hold one, as tests and conversions on bytes.
 ghost use mathlib.Core.Path.{_≡_};
-ghost use Prim.Native.Nat.{_≤_};
-ghost use lib.ListN.{length};
-ghost use Rattle.keys.specs.Names.{is-character, all-characters, is-name, is-section, filled};
+ghost use Rattle.keys.specs.Names.{is-character, all-characters, is-name, is-section};
 use bytes::are_all;
 use bytes::before;
 
@@ -43,16 +41,4 @@ pub fn is_section(bytes: &[u8]) -> bool
         return false;
     }
     are_all(&bytes[name.len()..], 0)
-}
-
-// The eight bytes of a name.
-pub fn fill(name: &[u8]) -> [u8; 8]
-    requires { ⌜ length (now name) ≤ 8 ⌝ }
-    ensures { λ r. ⌜ r ≡ filled (now (name .entry)) ⌝ }
-{
-    let mut bytes = [0u8; LONGEST_NAME];
-    for (i, byte) in name.iter().enumerate() {
-        bytes[i] = *byte;
-    }
-    bytes
 }

@@ -4,7 +4,7 @@ use native.Mathlib.Omega.{arith}
 use lib.ListN.{set, getD, length, replicate}
 use lib.Seq.{take-all}
 use Rattle.keys.proofs.Names.{fill-more, fill-all}
-use Rattle.keys.proofs.section.names.fill.Needs as need
+use Rattle.keys.proofs.section.calls.fill.Needs as need
 
 pub loop-i-again : need.loop-i-again
 loop-i-again c =

@@ -51,4 +51,3 @@ pub mod Finishes
 pub mod Measures
 pub mod Turns
 pub mod Service
-pub mod Registers

@@ -1,4 +1,4 @@
--- A request is finished exactly if it has no visit left, and where an unfinished one waits the head comes no later. Rests on Standings and Visits.
+-- A request is finished exactly if it has no visit left, and where an unfinished one waits the head comes no later. Rests on Standings, Finals and Visits.
 use mathlib.Core.Path.{_≡_, refl, sym, ap, subst, _∙_}
 use mathlib.Core.Bool.{Bool, true, false, cond, not, true≢false}
 use mathlib.Core.List.{List, [], _∷_}
@@ -21,7 +21,9 @@ use Rattle.rules.proofs.Pends.{waiting}
 use Rattle.rules.proofs.Visits.{reach, unmade, visits, waiting-before, reach-some, reach-short}
 use Rattle.rules.proofs.Holds.{Everywhere, Holds}
 use Rattle.rules.proofs.Ways.{inside-before}
-use Rattle.rules.proofs.Standings.{lowest-passes, lowest-some, turn-end, turn-head, turn-between, turn-stands, lined-head, drawn-waits, waits-drawn, drawn-lined}
+use Rattle.rules.proofs.Descents.{in-turn-end}
+use Rattle.rules.proofs.Finals.{lowest-finds, in-turn-stands, waiting-where}
+use Rattle.rules.proofs.Standings.{lowest-passes, turn-head, turn-between, lined-head, drawn-waits, drawn-lined}
 
 -- a queue has a head, a request that is no later than t
 abbrev pub Headed : ℕ → List Waiter → Type 0
@@ -73,7 +75,7 @@ module _ {K T : Type 0} (w : Kinds K T) (rs : List (Request K)) (s : State K T) 
   standing : (t p : ℕ) → p ≤ length rs → stands t (s .queue p) ≡ true → finished s t ≡ false
   standing t p le e =
       let n : given s ≡ length rs = ap length (h .requests) in
-      ap not (lowest-some (waits s t) (suc (given s)) p (omega arith) e)
+      ap not (lowest-finds (waits s t) (suc (given s)) p (omega arith) e)
 
   pub unfinished-visits : (t : ℕ) → 1 ≤ t → finished s t ≡ false → 1 ≤ visits time t x
   unfinished-visits t pos e = let u = unfinished-place t e in stands-visits t (u .0) pos (u .2)
@@ -82,11 +84,11 @@ module _ {K T : Type 0} (w : Kinds K T) (rs : List (Request K)) (s : State K T) 
   finished-visits t le e =
       ⊎-elim
       (λ (lt : t < time). visits-tree t lt false (false-unless (waiting t x) (λ v.
-          let u = waits-drawn w rs (s .place) (s .queue) x t (h .drawn) v in
+          let u = waiting-where (s .place) (s .queue) x t (h .drawn) v in
           let b = inside-before w rs (Everywhere w rs) time x (u .0) (h .good) (u .1) in
-          let end = turn-end time (s .queue 0) (suc (length rs)) (h .gate) in
+          let end = in-turn-end time (s .queue 0) (suc (length rs)) (h .gate) in
           true≢false (sym e ∙ standing t (u .0) (omega (arith, b)) (u .2)))))
-      (λ (ge : time ≤ t). absurd (true≢false (sym e ∙ standing t 0 (omega arith) (turn-stands t time (s .queue 0) (suc (length rs)) (h .gate) ge (omega arith)))))
+      (λ (ge : time ≤ t). absurd (true≢false (sym e ∙ standing t 0 (omega arith) (in-turn-stands time (s .queue 0) (suc (length rs)) t (h .gate) ge (omega arith)))))
       (cases-lt t time)
 
   pub visits-finished : (t : ℕ) → 1 ≤ t → visits time t x ≡ 0 → finished s t ≡ true

@@ -42,13 +42,13 @@ pub mod Standings
 pub mod Deeds
 pub mod Carrying
 pub mod Runs
+pub mod Instance
+pub mod Finals
+pub mod Listing
 pub mod Potentials
 pub mod Lessens
 pub mod Finishes
 pub mod Measures
 pub mod Turns
 pub mod Service
-pub mod Instance
-pub mod Finals
-pub mod Listing
 pub mod Registers

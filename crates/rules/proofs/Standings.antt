@@ -1,15 +1,13 @@
--- Who stands where: in the gate's queue, in the queues of the tree's places, and the lowest place of all. Rests on Holds and Insides.
+-- Who stands where: in the gate's queue, in the queues of the tree's places, and the lowest place of all. Rests on Holds and Descents.
 use mathlib.Core.Path.{_≡_, refl, sym, ap, subst, _∙_}
 use mathlib.Core.Bool.{Bool, true, false, cond, _||_, true≢false}
 use mathlib.Core.List.{List, [], _∷_}
-use mathlib.Core.Logic.{⊎-elim}
 use Prim.Native.Nat.{ℕ, zero, suc, _≤_, _<_}
 use native.Mathlib.Omega.{arith}
 use lib.Dec.{eqb}
-use Rattle.std.specs.Options.{isSome}
 use Rattle.std.specs.declared.option.Option.{Option}
 use Rattle.std.specs.declared.option.Option.the-variants.{Some, None}
-use Rattle.std.proofs.shelf.Tests.{eqb-true, eq-eqb, cases-lt, cases-eq}
+use Rattle.std.proofs.shelf.Tests.{eqb-true}
 use Rattle.requests.specs.declared.request.Request.{Request}
 use Rattle.rules.specs.Kinds.{Kinds}
 use Rattle.rules.specs.States.{Place, Waiter}
@@ -21,6 +19,7 @@ use Rattle.rules.proofs.Joins.{stands-between}
 use Rattle.rules.proofs.Insides.{inside-cases}
 use Rattle.rules.proofs.Pends.{waiting}
 use Rattle.rules.proofs.Holds.{In-turn}
+use Rattle.rules.proofs.Descents.{in-turn-end}
 
 -- the lowest number that passes is below the bound and passes
 pub lowest-passes : (test : ℕ → Bool) (b p : ℕ) → lowest test b ≡ Some p → (p < b) × (test p ≡ true)
@@ -35,47 +34,17 @@ lowest-passes test (suc b) p e = go (lowest-passes test b p) (lowest test b) ref
     go ih (Some i) f u = let v = ih (f ∙ u) in (omega (arith, v .0), v .1)
     go ih None f u = last (test b) refl u
 
--- and there is one if any passes
-pub lowest-some : (test : ℕ → Bool) (b p : ℕ) → p < b → test p ≡ true → isSome (lowest test b) ≡ true
-lowest-some test zero p lt e = absurd (omega arith)
-lowest-some test (suc b) p lt e = go (lowest-some test b p) (lowest test b) refl
-  where
-    go : (p < b → test p ≡ true → isSome (lowest test b) ≡ true) → (o : Option ℕ) → lowest test b ≡ o
-        → isSome (elim o as (λ _. Option ℕ) [ Some i ↦ Some i | None ↦ cond (test b) (Some b) None ]) ≡ true
-    go ih (Some i) f = refl
-    go ih None f =
-        ⊎-elim
-        (λ (u : p < b). absurd (true≢false (sym (ih u e) ∙ ap isSome f)))
-        (λ (u : b ≤ p). let same : p ≡ b = omega arith in let v : test b ≡ true = ap test (sym same) ∙ e in rw v)
-        (cases-lt p b)
-
--- numbers in turn rise
-pub turn-end : (lo : ℕ) (q : List Waiter) (hi : ℕ) → In-turn lo q hi → lo ≤ hi
-turn-end lo [] hi t = omega arith
-turn-end lo (x ∷ q) hi t = let ih = turn-end (suc lo) q hi (t .1) in omega arith
-
 -- the head of a row of numbers in turn is the first
 pub turn-head : (lo : ℕ) (q : List Waiter) (hi : ℕ) (e : Waiter) (es : List Waiter) → In-turn lo q hi → q ≡ e ∷ es → e .number ≡ lo
 turn-head lo q hi e es t eq = let u : In-turn lo (e ∷ es) hi = subst (λ v. In-turn lo v hi) eq t in u .0
 
--- who stands in a row of numbers in turn, and that all stand there
+-- who stands in a row of numbers in turn
 pub turn-between : (i lo : ℕ) (q : List Waiter) (hi : ℕ) → In-turn lo q hi → stands i q ≡ true → (lo ≤ i) × (i < hi)
 turn-between i lo [] hi t e = absurd (true≢false (sym e))
 turn-between i lo (x ∷ q) hi t e =
     or-cases (eqb (x .number) i) (stands i q) e
-    (λ f. let same = eqb-true (x .number) i f in let far = turn-end (suc lo) q hi (t .1) in (omega (arith, t .0), omega (arith, t .0)))
+    (λ f. let same = eqb-true (x .number) i f in let far = in-turn-end (suc lo) q hi (t .1) in (omega (arith, t .0), omega (arith, t .0)))
     (λ f. let ih = turn-between i (suc lo) q hi (t .1) f in (omega (arith, ih .0), ih .1))
-
-pub turn-stands : (i lo : ℕ) (q : List Waiter) (hi : ℕ) → In-turn lo q hi → lo ≤ i → i < hi → stands i q ≡ true
-turn-stands i lo [] hi t le lt = absurd (omega arith)
-turn-stands i lo (x ∷ q) hi t le lt =
-    ⊎-elim
-    (λ (e : i ≡ lo). or-left (eqb (x .number) i) (stands i q) (eq-eqb (x .number) i (t .0 ∙ sym e)))
-    (λ (ne : i ≡ lo → ⊥). or-right (eqb (x .number) i) (stands i q) (turn-stands i (suc lo) q hi (t .1) (above ne) lt))
-    (cases-eq i lo)
-  where
-    above : (i ≡ lo → ⊥) → suc lo ≤ i
-    above ne = ⊎-elim (λ u. u) (λ u. absurd (ne (omega arith))) (cases-lt lo i)
 
 -- the head of a queue of rising numbers is no higher than any that stands there
 pub lined-head : (i lo : ℕ) (e : Waiter) (q : List Waiter) (hi : ℕ) → Lined lo (e ∷ q) hi → stands i (e ∷ q) ≡ true → (lo < e .number) × (e .number ≤ i)
@@ -95,17 +64,6 @@ module _ {K T : Type 0} (w : Kinds K T) (rs : List (Request K)) (place : ℕ →
       (λ u. or-left (stands i q) (waiting i a || waiting i b) (ap (stands i) (sym (d .1) ∙ ap queue (sym u)) ∙ f))
       (λ u. or-right (stands i q) (waiting i a || waiting i b) (or-left (waiting i a) (waiting i b) (drawn-waits a i p (d .2) u f)))
       (λ u. or-right (stands i q) (waiting i a || waiting i b) (or-right (waiting i a) (waiting i b) (drawn-waits b i p (d .3) u f)))
-
-  -- who waits in the tree stands in the queue of a place
-  pub waits-drawn : (x : Tree K T) (i : ℕ) → Drawn place queue x → waiting i x ≡ true → (p : ℕ) × (inside p x ≡ true) × (stands i (queue p) ≡ true)
-  waits-drawn bare i d e = absurd (true≢false (sym e))
-  waits-drawn (leaf k) i d e = absurd (true≢false (sym e))
-  waits-drawn (node r s t q a b) i d e =
-      or-cases (stands i q) (waiting i a || waiting i b) e
-      (λ u. (r, or-left (eqb r r) (inside r a || inside r b) (eq-eqb r r refl), ap (stands i) (d .1) ∙ u))
-      (λ u. or-cases (waiting i a) (waiting i b) u
-        (λ v. let ih = waits-drawn a i (d .2) v in (ih .0, or-right (eqb (ih .0) r) (inside (ih .0) a || inside (ih .0) b) (or-left (inside (ih .0) a) (inside (ih .0) b) (ih .1)), ih .2))
-        (λ v. let ih = waits-drawn b i (d .3) v in (ih .0, or-right (eqb (ih .0) r) (inside (ih .0) a || inside (ih .0) b) (or-right (inside (ih .0) a) (inside (ih .0) b) (ih .1)), ih .2)))
 
   -- it rises from above the place's number
   pub drawn-lined : (R : K → Bool) (now : ℕ) (x : Tree K T) (p : ℕ) → Good w rs R now x → Drawn place queue x → inside p x ≡ true → (hi : ℕ) × Lined p (queue p) hi

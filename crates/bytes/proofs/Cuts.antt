@@ -1,16 +1,15 @@
 -- The first piece of a text and the pieces after it. Rests on Fronts.
 use mathlib.Core.Path.{_≡_, refl, ap, _∙_}
 use mathlib.Core.Bool.{Bool, true, false}
-use mathlib.Core.List.{List, [], _∷_, _++_}
+use mathlib.Core.List.{List, [], _∷_}
 use Prim.Native.Nat.{ℕ, suc, _+_, _-_, _≤_, _<_}
-use native.Mathlib.Numerals.{add-one}
 use native.Mathlib.Omega.{arith}
 use lib.Dec.{eqb}
 use lib.ListN.{length, take, drop, length-drop}
 use lib.Seq.{take-all}
 use Rattle.bytes.specs.Runs.{up-to}
 use Rattle.bytes.specs.Cuts.{pieces, onto-first}
-use Rattle.bytes.proofs.Fronts.{up-to-front, up-to-short}
+use Rattle.bytes.proofs.Fronts.{up-to-front}
 
 module _ (s : ℕ) where
   -- there is a separator: the pieces after it come next

@@ -1,6 +1,6 @@
 -- A text cut into pieces at a separator.
 use mathlib.Core.Bool.{cond}
-use mathlib.Core.List.{List, [], _∷_, _++_}
+use mathlib.Core.List.{List, [], _∷_}
 use Prim.Native.Nat.{ℕ}
 use denote.Ref.{RefT}
 use lib.Dec.{eqb}

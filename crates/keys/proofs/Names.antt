@@ -1,15 +1,15 @@
 -- The eight bytes that hold a name: filled one by one, read back, compared. Rests on Orders.
 use mathlib.Core.Path.{_≡_, refl, sym, ap, _∙_}
-use mathlib.Core.Bool.{Bool, true, false, cond, _&&_}
+use mathlib.Core.Bool.{Bool, true, false}
 use mathlib.Core.List.{List, [], _∷_, _++_, append-assoc}
 use Prim.Native.Nat.{ℕ, zero, suc, _+_, _-_, _≤_, _<_}
 use native.Mathlib.Omega.{arith}
 use lib.Dec.{eqb}
 use lib.ListN.{length, take, drop, getD, set, replicate, length-append, length-replicate, length-drop}
 use lib.Seq.{take-all, length-take-le, drop-append-seam}
-use Rattle.std.proofs.shelf.Lists.{take-more, set-append-right, at-drop-more, at-drop-all}
+use Rattle.std.proofs.shelf.Lists.{take-more, set-append-right}
 use Rattle.bytes.specs.Runs.{all-are}
-use Rattle.keys.specs.Names.{filled, name-in, all-characters, is-name, is-section, is-character}
+use Rattle.keys.specs.Names.{filled, name-in, all-characters, is-name, is-section}
 use Rattle.keys.specs.Orders.{text-le, by-first}
 
 -- a zero more

@@ -1,10 +1,10 @@
 -- The laws of an order by parts: what holds of the rest holds of the whole. Assumes nothing.
-use mathlib.Core.Path.{_≡_, refl}
+use mathlib.Core.Path.{_≡_}
 use mathlib.Core.Bool.{Bool, true, false}
-use Prim.Native.Nat.{ℕ, compare}
+use Prim.Native.Nat.{ℕ}
 use native.Mathlib.Omega.{arith}
 use lib.Dec.{leb, ltb}
-use Rattle.keys.specs.Orders.{decide, by-first}
+use Rattle.keys.specs.Orders.{by-first}
 
 pub by-first-refl : (a : ℕ) (r : Bool) → by-first a a r ≡ r
 by-first-refl a r = grind arith

@@ -1,10 +1,9 @@
 -- When two routes are equal, and the laws of their order. Rests on Orders.
 use mathlib.Core.Path.{_≡_, refl, ap}
-use mathlib.Core.Bool.{true, false}
+use mathlib.Core.Bool.{true}
 use mathlib.Core.HLevel.{isProp→PathP, ×-prop}
 use native.Mathlib.Bridge.{le-prop}
 use native.Mathlib.Omega.{arith}
-use Prim.Native.Nat.{ℕ, _≤_}
 use Rattle.keys.specs.declared.class.Class.{Class}
 use Rattle.keys.specs.declared.class.Class.the-variants.{M, W, C, S}
 use Rattle.keys.specs.declared.route.Route.{Route}

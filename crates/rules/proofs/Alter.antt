@@ -1,22 +1,22 @@
 -- A change at one place of a tree, and what it leaves of the whole. Rests on Insides.
 use mathlib.Core.Path.{_≡_, refl, sym, ap, subst, _∙_}
-use mathlib.Core.Bool.{Bool, true, false, cond, not, _&&_, _||_, true≢false}
-use mathlib.Core.List.{List, [], _∷_}
+use mathlib.Core.Bool.{Bool, true, false, cond, _||_, true≢false}
+use mathlib.Core.List.{List}
 use mathlib.Core.Logic.{_⊎_, inl, inr, ⊎-elim}
-use Prim.Native.Nat.{ℕ, zero, suc, _≤_, _<_}
+use Prim.Native.Nat.{ℕ, suc, _≤_, _<_}
 use native.Mathlib.Omega.{arith}
 use lib.Dec.{eqb}
 use lib.ListN.{length}
 use Rattle.std.specs.declared.option.Option.{Option}
-use Rattle.std.specs.declared.option.Option.the-variants.{Some, None}
+use Rattle.std.specs.declared.option.Option.the-variants.{Some}
 use Rattle.requests.specs.declared.request.Request.{Request}
 use Rattle.requests.specs.declared.request.Request.the-variants.{Count}
 use Rattle.rules.specs.Kinds.{Kinds, Lawful, before}
-use Rattle.rules.specs.States.{Slot, Place, Waiter, leads}
+use Rattle.rules.specs.States.{Place, Waiter}
 use Rattle.rules.specs.Queues.{numbered, stands}
 use Rattle.rules.proofs.Bools.{or-left, or-right, or-first, or-second, or-neither, false-unless, bool-map}
-use Rattle.rules.proofs.Trees.{Tree, bare, leaf, node, slot-of, inside, drawn-place, Drawn, drawn-frame}
-use Rattle.rules.proofs.Goods.{below, Over, left-of, right-of, Place-good, Good}
+use Rattle.rules.proofs.Trees.{Tree, bare, leaf, node, slot-of, inside, Drawn, drawn-frame}
+use Rattle.rules.proofs.Goods.{below, Over, left-of, right-of, Good}
 use Rattle.rules.proofs.Later.{left-in, right-in, lined-below}
 use Rattle.rules.proofs.Pends.{waiting, queue-share, pending, On-way}
 use Rattle.rules.proofs.Insides.{Maker, inside-cases, inside-maker, inside-over, makers-apart}

@@ -1,21 +1,20 @@
 -- The plain set just before a request, by the request's number. Rests on Times.
-use mathlib.Core.Path.{_≡_, refl, sym, ap, _∙_}
+use mathlib.Core.Path.{_≡_, ap, _∙_}
 use mathlib.Core.Logic.{⊎-elim}
-use mathlib.Core.Bool.{Bool, true, false, cond, not, _&&_, _||_}
+use mathlib.Core.Bool.{Bool, true, false}
 use mathlib.Core.List.{List, [], _∷_, _++_}
 use Prim.Native.Nat.{ℕ, zero, suc, pred, _≤_, _<_}
 use native.Mathlib.Omega.{arith}
 use lib.ListN.{length}
-use Rattle.std.specs.declared.option.Option.{Option}
 use Rattle.std.specs.declared.option.Option.the-variants.{Some, None}
 use Rattle.std.proofs.shelf.Tests.{cases-lt}
 use Rattle.requests.specs.declared.request.Request.{Request}
-use Rattle.requests.specs.declared.request.Request.the-variants.{Enter, Withdraw, LookUp, Count}
-use Rattle.rules.specs.Kinds.{Kinds, Lawful, same}
-use Rattle.rules.specs.Plain.{Ascends, has, done, set-after, set-before, weight-of}
+use Rattle.requests.specs.declared.request.Request.the-variants.{Enter, Withdraw}
+use Rattle.rules.specs.Kinds.{Kinds, Lawful}
+use Rattle.rules.specs.Plain.{has, done, set-before, weight-of}
 use Rattle.rules.specs.Queues.{numbered}
 use Rattle.rules.specs.Carries.{says}
-use Rattle.rules.proofs.Times.{set-at, present, weight-at, told, numbered-within}
+use Rattle.rules.proofs.Times.{told, numbered-within}
 use Rattle.rules.proofs.Times as times
 use Rattle.rules.proofs.Weights as weights
 

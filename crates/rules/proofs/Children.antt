@@ -3,28 +3,25 @@ use mathlib.Core.Path.{_≡_, refl, sym, ap, subst, _∙_}
 use mathlib.Core.Bool.{Bool, true, false, cond, not, _&&_, _||_, true≢false}
 use mathlib.Core.List.{List, [], _∷_, _++_}
 use mathlib.Core.Logic.{⊎-elim}
-use Prim.Native.Nat.{ℕ, zero, suc, pred, _≤_, _<_}
+use Prim.Native.Nat.{ℕ, suc, pred, _<_}
 use native.Mathlib.Omega.{arith}
-use lib.ListN.{length}
-use Rattle.std.specs.declared.option.Option.{Option}
 use Rattle.std.specs.declared.option.Option.the-variants.{Some, None}
 use Rattle.std.proofs.shelf.Tests.{cases-lt}
 use Rattle.requests.specs.declared.request.Request.{Request}
-use Rattle.requests.specs.declared.request.Request.the-variants.{Enter, Withdraw, LookUp, Count}
+use Rattle.requests.specs.declared.request.Request.the-variants.{Enter, Withdraw, Count}
 use Rattle.rules.specs.declared.mode.Mode.{Mode}
-use Rattle.rules.specs.declared.mode.Mode.the-variants.{Between, From, Upto}
+use Rattle.rules.specs.declared.mode.Mode.the-variants.{Between}
 use Rattle.rules.specs.Kinds.{Kinds, Lawful, same, before, greater, lesser}
 use Rattle.rules.specs.Plain.{set-before}
 use Rattle.rules.specs.States.{Waiter}
 use Rattle.rules.specs.Queues.{numbered}
-use Rattle.rules.specs.Carries.{says}
 use Rattle.rules.proofs.Bools.{bool-case, both-true, or-false, not-and}
 use Rattle.rules.proofs.Order.{same-eq}
 use Rattle.rules.proofs.Weights as weights
 use Rattle.rules.proofs.Times.{ascends-at, told}
 use Rattle.rules.proofs.Befores.{was, weight-before, Unmoved, Still, unmoved-silent, was-next, was-still, weight-still, weight-entered, weight-withdrawn}
 use Rattle.rules.proofs.Trees.{Tree, bare, leaf, node}
-use Rattle.rules.proofs.Goods.{left-of, right-of, Mode-fits, Waiter-fits, Place-good, Good}
+use Rattle.rules.proofs.Goods.{Mode-fits, Waiter-fits, Good}
 use Rattle.rules.proofs.Later.{left-in, left-side, right-in, right-side, good-later}
 use Rattle.rules.proofs.Joins.{node-joins}
 

@@ -2,8 +2,8 @@
 use mathlib.Core.Path.{_≡_, refl, sym, ap, subst, _∙_}
 use mathlib.Core.Bool.{Bool, true, false, cond, true≢false}
 use mathlib.Core.List.{List, [], _∷_, _++_}
-use mathlib.Core.Logic.{_⊎_, inl, inr, ⊎-elim}
-use Prim.Native.Nat.{ℕ, zero, suc, _≤_, _<_}
+use mathlib.Core.Logic.{inl, inr, ⊎-elim}
+use Prim.Native.Nat.{ℕ, suc, _≤_, _<_}
 use native.Mathlib.Omega.{arith}
 use lib.Dec.{eqb}
 use lib.ListN.{length}
@@ -12,19 +12,18 @@ use Rattle.std.specs.declared.option.Option.the-variants.{Some, None}
 use Rattle.std.proofs.shelf.Tests.{cases-eq}
 use Rattle.requests.specs.declared.request.Request.{Request}
 use Rattle.requests.specs.declared.request.Request.the-variants.{Enter, Withdraw, LookUp, Count}
-use Rattle.rules.specs.declared.note.Note.the-variants as note
 use Rattle.rules.specs.declared.mode.Mode.{Mode}
 use Rattle.rules.specs.Kinds.{Kinds, Lawful, before}
 use Rattle.rules.specs.Plain.{answered, set-before}
 use Rattle.rules.specs.States.{State, Slot, Place, Waiter, empty, holds, leads}
 use Rattle.rules.specs.Queues.{numbered, stands, heads, behind}
 use Rattle.rules.specs.Changes.{with-queue, with-place}
-use Rattle.rules.specs.Moves.{Step, show, add, slot-on, with-slot-on, side-of, with-tally, is-present, slot-for, with-slot-for, shown, stepped, stepped-all, count-steps, moved, enter-at, withdraw-at, acted}
+use Rattle.rules.specs.Moves.{Step, show, add, slot-on, with-slot-on, side-of, with-tally, is-present, slot-for, shown, stepped, stepped-all, count-steps, moved, enter-at, withdraw-at, acted}
 use Rattle.rules.specs.Carries.{sought}
-use Rattle.rules.proofs.Bools.{or-left, false-unless}
+use Rattle.rules.proofs.Bools.{or-left}
 use Rattle.rules.proofs.Befores.{was}
-use Rattle.rules.proofs.Trees.{Tree, bare, leaf, node, slot-of, inside, Drawn}
-use Rattle.rules.proofs.Goods.{below, Over, Waiter-fits, Good}
+use Rattle.rules.proofs.Trees.{Tree, node, inside, Drawn}
+use Rattle.rules.proofs.Goods.{Waiter-fits, Good}
 use Rattle.rules.proofs.Pairs.{moved-node}
 use Rattle.rules.proofs.Pends.{waiting}
 use Rattle.rules.proofs.Alter.{alter, Changed, altered}
@@ -35,7 +34,7 @@ use Rattle.rules.proofs.Tames.{Tame, tame-acted, heads-grown}
 use Rattle.rules.proofs.Unmade.{waiting-at, waiting-unmade}
 use Rattle.rules.proofs.Visits.{waiting-before}
 use Rattle.rules.proofs.Falls.{falls-moved}
-use Rattle.rules.proofs.Holds.{In-turn, Everywhere, Bears, Walks, Holds}
+use Rattle.rules.proofs.Holds.{In-turn, Everywhere, Bears, Holds}
 use Rattle.rules.proofs.MovedBy.{Moved-by}
 
 pub heads-first : (e : Waiter) (q q′ : List Waiter) → q′ ≡ e ∷ q → heads (e .number) q′ ≡ true

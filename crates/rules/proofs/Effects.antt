@@ -1,14 +1,10 @@
 -- The state after a move, spelled out: which rows are written, and how. Assumes nothing.
-use mathlib.Core.Path.{_≡_, refl, sym, ap, _∙_}
-use mathlib.Core.Bool.{Bool, true, false, cond, not, _&&_, _||_}
-use mathlib.Core.List.{List, [], _∷_, _++_}
-use Prim.Native.Nat.{ℕ, zero, suc}
-use Rattle.std.specs.declared.option.Option.{Option}
+use mathlib.Core.Path.{_≡_, ap}
+use Prim.Native.Nat.{ℕ, suc}
 use Rattle.std.specs.declared.option.Option.the-variants.{Some, None}
-use Rattle.requests.specs.declared.request.Request.{Request}
 use Rattle.rules.specs.declared.mode.Mode.{Mode}
 use Rattle.rules.specs.Kinds.{Kinds, before}
-use Rattle.rules.specs.States.{State, Slot, Place, Waiter, empty, holds, leads}
+use Rattle.rules.specs.States.{State, Slot, Place, empty, leads}
 use Rattle.rules.specs.Changes.{with-place}
 use Rattle.rules.specs.Moves.{slot-on, with-slot-on, with-tally, side-of, slot-for, with-slot-for, with-joined, whole, stepped-all, count-steps, count-at}
 

@@ -1,35 +1,32 @@
 -- Finished requests: where they do not wait, and the answers that they bear. Rests on Holds and Unmade.
-use mathlib.Core.Path.{_≡_, refl, sym, ap, subst, _∙_}
-use mathlib.Core.Bool.{Bool, true, false, cond, not, _&&_, _||_, true≢false}
-use mathlib.Core.List.{List, [], _∷_, _++_}
+use mathlib.Core.Path.{_≡_, refl, sym, ap, _∙_}
+use mathlib.Core.Bool.{Bool, true, false, cond, not, _||_, true≢false}
+use mathlib.Core.List.{List, [], _∷_}
 use mathlib.Core.Logic.{_⊎_, inl, inr, ⊎-elim}
 use Prim.Native.Nat.{ℕ, zero, suc, _≤_, _<_}
 use native.Mathlib.Omega.{arith}
 use lib.Dec.{eqb}
-use lib.ListN.{length}
 use Rattle.std.specs.Options.{isSome}
 use Rattle.std.specs.declared.option.Option.{Option}
 use Rattle.std.specs.declared.option.Option.the-variants.{Some, None}
 use Rattle.std.proofs.shelf.Tests.{cases-lt, cases-eq}
-use Rattle.requests.specs.declared.answer.Answer.{Answer}
 use Rattle.requests.specs.declared.answer.Answer.the-variants.{Counted}
 use Rattle.requests.specs.declared.request.Request.{Request}
 use Rattle.requests.specs.declared.request.Request.the-variants.{Enter, Withdraw, LookUp, Count}
 use Rattle.rules.specs.Kinds.{Kinds, Lawful}
 use Rattle.rules.specs.Plain.{answered, set-before}
 use Rattle.rules.specs.States.{State, Place, Waiter}
-use Rattle.rules.specs.Queues.{numbered, lowest, stands, given, waits, waiting-place, finished, bears, final-answer}
+use Rattle.rules.specs.Queues.{numbered, lowest, stands, given, waits, finished, bears}
 use Rattle.rules.specs.Laws.{Answers-are-plain}
-use Rattle.rules.proofs.Bools.{or-cases, or-left, or-right, false-unless}
+use Rattle.rules.proofs.Bools.{or-left, or-right, false-unless}
 use Rattle.rules.proofs.Weights.{neutral-right}
 use Rattle.rules.proofs.Times.{numbered-within}
 use Rattle.rules.proofs.Trees.{Tree, bare, leaf, node, inside, Drawn}
 use Rattle.rules.proofs.Insides.{inside-maker}
-use Rattle.rules.proofs.Pends.{waiting, pending}
-use Rattle.rules.proofs.Puts.{eqb-eq}
+use Rattle.rules.proofs.Pends.{waiting}
 use Rattle.rules.proofs.Unmade.{waiting-cases}
 use Rattle.rules.proofs.Passing.{pending-none}
-use Rattle.rules.proofs.Holds.{In-turn, Everywhere, Bears, Holds}
+use Rattle.rules.proofs.Holds.{In-turn, Everywhere, Holds}
 
 -- one more number to try
 next-lowest : (o : Option ℕ) (b : ℕ) (c : Bool) → (isSome o ≡ true) ⊎ (c ≡ true) → isSome (elim o [ Some p ↦ Some p | None ↦ cond c (Some b) None ]) ≡ true

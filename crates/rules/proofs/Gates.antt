@@ -1,18 +1,17 @@
 -- A request moves from the gate into the tree, or is finished there: the invariant holds after it. Rests on Descents.
 use mathlib.Core.Path.{_≡_, refl, sym, ap, subst, _∙_}
-use mathlib.Core.Bool.{Bool, true, false, cond, not, _&&_, _||_, true≢false}
+use mathlib.Core.Bool.{true, false, true≢false}
 use mathlib.Core.List.{List, [], _∷_, _++_}
-use mathlib.Core.Logic.{_⊎_, inl, inr, ⊎-elim}
-use Prim.Native.Nat.{ℕ, zero, suc, _≤_, _<_}
+use mathlib.Core.Logic.{inl, inr, ⊎-elim}
+use Prim.Native.Nat.{ℕ, suc, _≤_, _<_}
 use native.Mathlib.Omega.{arith}
 use lib.Dec.{eqb}
 use lib.ListN.{length}
 use Rattle.std.specs.Options.{isSome}
-use Rattle.std.specs.declared.option.Option.{Option}
 use Rattle.std.specs.declared.option.Option.the-variants.{Some, None}
 use Rattle.std.proofs.shelf.Tests.{cases-eq}
 use Rattle.requests.specs.declared.request.Request.{Request}
-use Rattle.requests.specs.declared.request.Request.the-variants.{Enter, Withdraw, LookUp, Count}
+use Rattle.requests.specs.declared.request.Request.the-variants.{Count}
 use Rattle.rules.specs.Kinds.{Kinds, Lawful}
 use Rattle.rules.specs.Plain.{set-before, weight-of, within}
 use Rattle.rules.specs.States.{State, Waiter}
@@ -20,18 +19,15 @@ use Rattle.rules.specs.Queues.{numbered, heads, behind}
 use Rattle.rules.specs.Changes.{with-queue}
 use Rattle.rules.specs.Moves.{moved}
 use Rattle.rules.specs.Carries.{sought}
-use Rattle.rules.proofs.Befores.{was}
 use Rattle.rules.proofs.Trees.{Tree, slot-of, inside, Drawn}
 use Rattle.rules.proofs.Goods.{Over, Good}
 use Rattle.rules.proofs.Pends.{waiting, pending}
-use Rattle.rules.proofs.Puts.{put-here, put-other, apart-eqb}
-use Rattle.rules.proofs.Meets.{Rest}
+use Rattle.rules.proofs.Puts.{put-other, apart-eqb}
 use Rattle.rules.proofs.Tames.{Tame, tame-acted, heads-grown}
-use Rattle.rules.proofs.Visits.{waiting-before}
 use Rattle.rules.proofs.Falls.{Stays}
-use Rattle.rules.proofs.Holds.{In-turn, Everywhere, Bears, Walks, Holds}
+use Rattle.rules.proofs.Holds.{In-turn, Everywhere, Bears, Holds}
 use Rattle.rules.proofs.MovedBy.{Moved-by}
-use Rattle.rules.proofs.Descents.{in-turn-end, heads-first, bears-kept}
+use Rattle.rules.proofs.Descents.{heads-first, bears-kept}
 
 module _ {K T : Type 0} (w : Kinds K T) (s : State K T) (x : Tree K T) (time : ℕ) (r : Request K) where
   -- what is to be shown for each request that leaves the gate: of the state and the tree y that then hangs there

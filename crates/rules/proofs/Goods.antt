@@ -1,21 +1,17 @@
 -- What is true of a tree in its region, just before a request: the invariant of the places. Rests on Befores.
-use mathlib.Core.Path.{_≡_, refl, sym, ap, _∙_}
-use mathlib.Core.Bool.{Bool, true, false, cond, not, _&&_, _||_}
-use mathlib.Core.List.{List, [], _∷_, _++_}
-use Prim.Native.Nat.{ℕ, zero, suc, _≤_, _<_}
-use native.Mathlib.Omega.{arith}
-use lib.Dec.{eqb}
-use lib.ListN.{length}
+use mathlib.Core.Path.{_≡_}
+use mathlib.Core.Bool.{Bool, true, false, _&&_}
+use mathlib.Core.List.{List, [], _∷_}
+use Prim.Native.Nat.{ℕ, _≤_, _<_}
 use Rattle.std.specs.declared.option.Option.{Option}
 use Rattle.std.specs.declared.option.Option.the-variants.{Some, None}
 use Rattle.requests.specs.declared.request.Request.{Request}
 use Rattle.requests.specs.declared.request.Request.the-variants.{Enter, Withdraw, LookUp, Count}
 use Rattle.rules.specs.declared.mode.Mode.{Mode}
 use Rattle.rules.specs.declared.mode.Mode.the-variants.{Between, From, Upto}
-use Rattle.rules.specs.Kinds.{Kinds, Lawful, same, before}
+use Rattle.rules.specs.Kinds.{Kinds, same, before}
 use Rattle.rules.specs.States.{Waiter}
 use Rattle.rules.specs.Queues.{numbered, stands}
-use Rattle.rules.specs.Carries.{says}
 use Rattle.rules.proofs.Befores.{was, weight-before, Unmoved}
 use Rattle.rules.proofs.Trees.{Tree, bare, leaf, node}
 

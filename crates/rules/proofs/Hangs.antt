@@ -1,24 +1,23 @@
 -- A place of which one child has changed: what is drawn anew, and what is kept. Rests on Alter and Puts.
-use mathlib.Core.Path.{_≡_, refl, sym, ap, subst, _∙_}
-use mathlib.Core.Bool.{Bool, true, false, cond, not, _&&_, _||_, true≢false}
-use mathlib.Core.List.{List, [], _∷_, _++_}
-use Prim.Native.Nat.{ℕ, zero, suc, _≤_, _<_}
+use mathlib.Core.Path.{_≡_, sym, ap, _∙_}
+use mathlib.Core.Bool.{Bool, true, false, _||_, true≢false}
+use mathlib.Core.List.{List}
+use Prim.Native.Nat.{ℕ, _<_}
 use native.Mathlib.Omega.{arith}
 use lib.Dec.{eqb}
 use Rattle.std.specs.declared.option.Option.{Option}
-use Rattle.std.specs.declared.option.Option.the-variants.{Some, None}
+use Rattle.std.specs.declared.option.Option.the-variants.{Some}
 use Rattle.requests.specs.declared.request.Request.{Request}
-use Rattle.rules.specs.Kinds.{Kinds, Lawful}
-use Rattle.rules.specs.States.{Slot, Place, Waiter, empty, holds, leads}
+use Rattle.rules.specs.Kinds.{Kinds}
+use Rattle.rules.specs.States.{Place, Waiter}
 use Rattle.rules.specs.Queues.{numbered}
 use Rattle.rules.specs.Moves.{Side, on-left, on-right, with-slot-on}
-use Rattle.rules.specs.Changes.{put}
-use Rattle.rules.proofs.Bools.{or-left, or-right, or-first, or-second, false-unless}
+use Rattle.rules.proofs.Bools.{or-left, or-first, or-second, false-unless}
 use Rattle.rules.proofs.Trees.{Tree, bare, leaf, node, slot-of, inside, drawn-place, Drawn, drawn-frame}
-use Rattle.rules.proofs.Goods.{below, Over, left-of, right-of, Place-good, Good}
+use Rattle.rules.proofs.Goods.{below, left-of, right-of, Good}
 use Rattle.rules.proofs.Later.{left-in, right-in}
 use Rattle.rules.proofs.Insides.{Maker, inside-maker, inside-over, makers-apart}
-use Rattle.rules.proofs.Puts.{put-here, put-other, apart-eqb, eqb-eq, inside-apart, drawn-put-place, drawn-put-queue}
+use Rattle.rules.proofs.Puts.{apart-eqb}
 
 module _ {K T : Type 0} where
   -- whether a number is that of a tree's top place

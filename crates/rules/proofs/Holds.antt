@@ -3,15 +3,13 @@ use mathlib.Core.Path.{_≡_}
 use mathlib.Core.Bool.{Bool, true, false}
 use mathlib.Core.List.{List, [], _∷_}
 use mathlib.Core.Logic.{_⊎_}
-use Prim.Native.Nat.{ℕ, zero, suc, _≤_, _<_}
+use Prim.Native.Nat.{ℕ, suc, _≤_, _<_}
 use lib.ListN.{length}
-use Rattle.std.specs.declared.option.Option.{Option}
 use Rattle.std.specs.declared.option.Option.the-variants.{Some, None}
 use Rattle.requests.specs.declared.request.Request.{Request}
 use Rattle.requests.specs.declared.request.Request.the-variants.{Enter, Withdraw, LookUp, Count}
-use Rattle.rules.specs.declared.note.Note.{Note}
 use Rattle.rules.specs.declared.note.Note.the-variants as note
-use Rattle.rules.specs.Kinds.{Kinds, Lawful}
+use Rattle.rules.specs.Kinds.{Kinds}
 use Rattle.rules.specs.Plain.{answered, set-before, weight-of, within}
 use Rattle.rules.specs.States.{State, Waiter}
 use Rattle.rules.specs.Queues.{numbered}

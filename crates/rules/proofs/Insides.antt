@@ -1,19 +1,19 @@
 -- Whose places hang in a good tree: their numbers, their makers' keys, and that no place hangs twice. Rests on Goods.
-use mathlib.Core.Path.{_≡_, refl, sym, ap, _∙_}
-use mathlib.Core.Bool.{Bool, true, false, cond, not, _&&_, _||_, true≢false}
-use mathlib.Core.List.{List, [], _∷_}
-use Prim.Native.Nat.{ℕ, zero, suc, _≤_, _<_}
+use mathlib.Core.Path.{_≡_, sym, ap, _∙_}
+use mathlib.Core.Bool.{Bool, true, false, not, _||_, true≢false}
+use mathlib.Core.List.{List}
+use Prim.Native.Nat.{ℕ, _<_}
 use native.Mathlib.Omega.{arith}
 use lib.Dec.{eqb}
-use Rattle.std.specs.declared.option.Option.the-variants.{Some, None}
+use Rattle.std.specs.declared.option.Option.the-variants.{Some}
 use Rattle.requests.specs.declared.request.Request.{Request}
 use Rattle.requests.specs.declared.request.Request.the-variants.{Enter}
-use Rattle.rules.specs.Kinds.{Kinds, before}
+use Rattle.rules.specs.Kinds.{Kinds}
 use Rattle.rules.specs.States.{Waiter}
 use Rattle.rules.specs.Queues.{numbered}
 use Rattle.rules.proofs.Bools.{or-cases}
 use Rattle.rules.proofs.Trees.{Tree, bare, leaf, node, inside}
-use Rattle.rules.proofs.Goods.{below, Over, left-of, right-of, Place-good, Good}
+use Rattle.rules.proofs.Goods.{below, Over, left-of, right-of, Good}
 use Rattle.rules.proofs.Later.{left-in, left-side, right-in, right-side}
 
 module _ {K T : Type 0} (w : Kinds K T) (rs : List (Request K)) where

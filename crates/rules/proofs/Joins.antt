@@ -1,24 +1,20 @@
 -- A request joins the queue of a place: what it leaves of the tree there. Rests on Later.
-use mathlib.Core.Path.{_≡_, refl, sym, ap, subst, _∙_}
-use mathlib.Core.Bool.{Bool, true, false, cond, not, _&&_, _||_, true≢false}
+use mathlib.Core.Path.{_≡_, refl, sym, subst, _∙_}
+use mathlib.Core.Bool.{Bool, true, false, _||_, true≢false}
 use mathlib.Core.List.{List, [], _∷_, _++_}
 use mathlib.Core.Logic.{⊎-elim}
-use Prim.Native.Nat.{ℕ, zero, suc, _≤_, _<_}
+use Prim.Native.Nat.{ℕ, suc, _≤_, _<_}
 use native.Mathlib.Omega.{arith}
 use lib.Dec.{eqb}
-use lib.ListN.{length}
-use Rattle.std.specs.declared.option.Option.{Option}
-use Rattle.std.specs.declared.option.Option.the-variants.{Some, None}
 use Rattle.std.proofs.shelf.Tests.{cases-lt}
 use Rattle.requests.specs.declared.request.Request.{Request}
-use Rattle.rules.specs.Kinds.{Kinds, Lawful, same, before}
+use Rattle.rules.specs.Kinds.{Kinds, same}
 use Rattle.rules.specs.States.{Waiter}
 use Rattle.rules.specs.Queues.{numbered, stands}
-use Rattle.rules.specs.Carries.{says}
-use Rattle.rules.proofs.Befores.{was, weight-before, Still}
-use Rattle.rules.proofs.Trees.{Tree, bare, leaf, node}
+use Rattle.rules.proofs.Befores.{weight-before, Still}
+use Rattle.rules.proofs.Trees.{Tree, node}
 use Rattle.rules.proofs.Goods.{below, Lined, Over, left-of, right-of, Waiter-fits, Queue-fits, Still-but, Place-good, Good}
-use Rattle.rules.proofs.Later.{lined-up, lined-down, lined-below}
+use Rattle.rules.proofs.Later.{lined-down, lined-below}
 
 -- one more at the end leaves the time below as it was just before that one
 pub below-append : (q : List Waiter) (e : Waiter) (t : ℕ) → below (q ++ (e ∷ [])) t ≡ below q (e .number)

@@ -1,34 +1,27 @@
 -- Opening, submitting, noting and deciding keep the invariant. Rests on Holds.
-use mathlib.Core.Path.{_≡_, refl, sym, ap, subst, _∙_}
-use mathlib.Core.Bool.{Bool, true, false, cond, true≢false}
-use mathlib.Core.List.{List, [], _∷_, _++_}
+use mathlib.Core.Path.{_≡_, refl, sym, ap, _∙_}
+use mathlib.Core.Bool.{Bool, true, false, cond}
+use mathlib.Core.List.{List, []}
 use mathlib.Core.Logic.{_⊎_, inl, inr, ⊎-elim}
-use Prim.Native.Nat.{ℕ, zero, suc, _≤_, _<_}
+use Prim.Native.Nat.{ℕ, _≤_, _<_}
 use native.Mathlib.Omega.{arith}
 use lib.Dec.{eqb}
-use lib.ListN.{length, length-append}
 use Rattle.std.specs.declared.option.Option.{Option}
 use Rattle.std.specs.declared.option.Option.the-variants.{Some, None}
-use Rattle.std.proofs.shelf.Tests.{cases-eq}
 use Rattle.requests.specs.declared.request.Request.{Request}
 use Rattle.requests.specs.declared.request.Request.the-variants.{Enter, Withdraw, LookUp, Count}
-use Rattle.rules.specs.declared.mode.Mode.{Mode}
-use Rattle.rules.specs.declared.mode.Mode.the-variants.{Between}
 use Rattle.rules.specs.declared.note.Note.the-variants as note
 use Rattle.rules.specs.Kinds.{Kinds, Lawful}
-use Rattle.rules.specs.Plain.{answered, set-before, weight-of, within}
-use Rattle.rules.specs.States.{State, Waiter, Desk, opening}
-use Rattle.rules.specs.Queues.{numbered, given}
-use Rattle.rules.specs.Changes.{put, with-request, with-waiter, with-uncollected, with-desk, with-decision}
-use Rattle.rules.specs.Carries.{sought, says, last-word}
-use Rattle.rules.proofs.Times.{numbered-within, numbered-append, present-none}
-use Rattle.rules.proofs.Befores.{was, weight-before, Unmoved, before-append}
-use Rattle.rules.proofs.Trees.{Tree, bare, leaf, node, inside, Drawn}
-use Rattle.rules.proofs.Goods.{below, Lined, Over, left-of, right-of, Mode-fits, Waiter-fits, Queue-fits, Still-but, Place-good, Good}
-use Rattle.rules.proofs.Later.{lined-below}
-use Rattle.rules.proofs.Pends.{waiting, share, queue-share, pending, On-way}
-use Rattle.rules.proofs.Puts.{put-here, put-other, apart-eqb, eqb-eq, drawn-put-queue}
-use Rattle.rules.proofs.Holds.{In-turn, Everywhere, Bears, Walks, Holds}
+use Rattle.rules.specs.States.{State, Desk, opening}
+use Rattle.rules.specs.Queues.{numbered}
+use Rattle.rules.specs.Changes.{put, with-desk, with-decision}
+use Rattle.rules.specs.Carries.{sought}
+use Rattle.rules.proofs.Times.{numbered-within, present-none}
+use Rattle.rules.proofs.Befores.{was}
+use Rattle.rules.proofs.Trees.{Tree, bare}
+use Rattle.rules.proofs.Pends.{waiting}
+use Rattle.rules.proofs.Puts.{put-other, apart-eqb, eqb-eq}
+use Rattle.rules.proofs.Holds.{Bears, Walks, Holds}
 
 -- a register just opened
 pub opens : {K T : Type 0} (w : Kinds K T) (l : Lawful w) (cells : ℕ) → Holds w [] (opening w cells) bare 1

@@ -1,22 +1,17 @@
 -- A tree stays good while nothing of its region changes, and when requests are added. Rests on Goods.
-use mathlib.Core.Path.{_≡_, refl, sym, ap, _∙_}
+use mathlib.Core.Path.{_≡_, sym, _∙_}
 use mathlib.Core.Logic.{⊎-elim}
-use mathlib.Core.Bool.{Bool, true, false, cond, not, _&&_, _||_}
-use mathlib.Core.List.{List, [], _∷_, _++_}
-use Prim.Native.Nat.{ℕ, zero, suc, _≤_, _<_}
+use mathlib.Core.Bool.{Bool, true}
+use mathlib.Core.List.{List, [], _∷_}
+use Prim.Native.Nat.{ℕ, _≤_, _<_}
 use native.Mathlib.Omega.{arith}
-use lib.ListN.{length}
-use Rattle.std.specs.declared.option.Option.{Option}
-use Rattle.std.specs.declared.option.Option.the-variants.{Some, None}
 use Rattle.std.proofs.shelf.Tests.{cases-lt}
 use Rattle.requests.specs.declared.request.Request.{Request}
-use Rattle.rules.specs.Kinds.{Kinds, Lawful, same, before}
+use Rattle.rules.specs.Kinds.{Kinds, Lawful, before}
 use Rattle.rules.specs.States.{Waiter}
-use Rattle.rules.specs.Queues.{numbered, stands}
-use Rattle.rules.specs.Carries.{says}
-use Rattle.rules.proofs.Befores.{was, weight-before, Still, was-still, weight-still, still-part, still-within}
+use Rattle.rules.proofs.Befores.{Still, was-still, weight-still, still-within}
 use Rattle.rules.proofs.Trees.{Tree, bare, leaf, node}
-use Rattle.rules.proofs.Goods.{below, Lined, left-of, right-of, Queue-fits, Still-but, Place-good, Good}
+use Rattle.rules.proofs.Goods.{below, Lined, left-of, right-of, Still-but, Place-good, Good}
 
 -- the end of a row of numbers may move up
 pub lined-up : (lo : ℕ) (q : List Waiter) (a b : ℕ) → a ≤ b → Lined lo q a → Lined lo q b

@@ -1,36 +1,33 @@
 -- Reading off: with nobody waiting, the tree's keys from left to right are the plain set. Rests on Finals.
 use mathlib.Core.Path.{_≡_, refl, sym, ap, subst, _∙_}
-use mathlib.Core.Bool.{Bool, true, false, cond, not, _&&_, _||_, true≢false}
+use mathlib.Core.Bool.{Bool, true, false, not, _&&_, _||_, true≢false}
 use mathlib.Core.List.{List, [], _∷_, _++_}
 use mathlib.Core.Logic.{⊎-elim}
 use Prim.Native.Nat.{ℕ, zero, suc, _+_, _≤_, _<_}
 use native.Mathlib.Omega.{arith}
 use lib.Dec.{eqb}
-use lib.ListN.{length}
-use Rattle.std.specs.declared.option.Option.{Option}
 use Rattle.std.specs.declared.option.Option.the-variants.{Some, None}
 use Rattle.std.proofs.shelf.Tests.{cases-lt}
 use Rattle.requests.specs.declared.request.Request.{Request}
 use Rattle.requests.specs.declared.request.Request.the-variants.{Enter}
 use Rattle.rules.specs.Kinds.{Kinds, Lawful, same, before}
 use Rattle.rules.specs.Plain.{Ascends, has, set-after, set-before}
-use Rattle.rules.specs.States.{State, Slot, Place, Waiter, empty, holds, leads}
-use Rattle.rules.specs.Queues.{numbered, stands, given, finished}
-use Rattle.rules.specs.ReadOff.{all-from-one, keys-under, keys-listed, all-finished}
+use Rattle.rules.specs.States.{State, Waiter}
+use Rattle.rules.specs.Queues.{stands, given, finished}
+use Rattle.rules.specs.ReadOff.{all-from-one, keys-under, keys-listed}
 use Rattle.rules.specs.Laws.{Reading-is-plain}
 use Rattle.rules.proofs.Bools.{or-left, or-right, or-false, or-first, or-second, and-first, and-second, false-unless}
-use Rattle.rules.proofs.Order.{same-refl, same-eq, before-le-trans}
+use Rattle.rules.proofs.Order.{same-eq, before-le-trans}
 use Rattle.rules.proofs.Sets.{has-append, ascends-append, ascends-set-after, same-rows}
 use Rattle.rules.proofs.Times.{numbered-within, set-at-end}
 use Rattle.rules.proofs.Befores.{was}
-use Rattle.rules.proofs.Trees.{Tree, bare, leaf, node, slot-of, inside, drawn-place, Drawn}
+use Rattle.rules.proofs.Trees.{Tree, bare, leaf, node, slot-of, inside, Drawn}
 use Rattle.rules.proofs.Goods.{below, Over, left-of, right-of, Good}
 use Rattle.rules.proofs.Insides.{inside-maker}
 use Rattle.rules.proofs.Pends.{waiting}
-use Rattle.rules.proofs.Joins.{stands-between}
 use Rattle.rules.proofs.Visits.{waiting-before}
 use Rattle.rules.proofs.Unmade.{waiting-over}
-use Rattle.rules.proofs.Holds.{In-turn, Everywhere, Holds}
+use Rattle.rules.proofs.Holds.{Everywhere, Holds}
 use Rattle.rules.proofs.Descents.{in-turn-end}
 use Rattle.rules.proofs.Finals.{finished-out}
 

@@ -1,37 +1,37 @@
 -- A move at a place that is made: what it leaves of the place and all below it. Rests on Meets, Stepped, Sames and Shares.
 use mathlib.Core.Path.{_≡_, refl, sym, ap, subst, _∙_}
-use mathlib.Core.Bool.{Bool, true, false, cond, not, _&&_, _||_, true≢false}
-use mathlib.Core.List.{List, [], _∷_, _++_}
+use mathlib.Core.Bool.{Bool, true, false, cond, _||_, true≢false}
+use mathlib.Core.List.{List, [], _∷_}
 use mathlib.Core.Logic.{_⊎_, inl, inr, ⊎-elim}
-use Prim.Native.Nat.{ℕ, zero, suc, _≤_, _<_}
+use Prim.Native.Nat.{ℕ, suc, _≤_}
 use native.Mathlib.Omega.{arith}
 use lib.Dec.{eqb}
 use lib.ListN.{length}
 use Rattle.std.specs.declared.option.Option.{Option}
-use Rattle.std.specs.declared.option.Option.the-variants.{Some, None}
+use Rattle.std.specs.declared.option.Option.the-variants.{Some}
 use Rattle.std.proofs.shelf.Tests.{cases-eq}
 use Rattle.requests.specs.declared.answer.Answer.the-variants as answer
 use Rattle.requests.specs.declared.request.Request.{Request}
 use Rattle.requests.specs.declared.request.Request.the-variants.{Enter, Withdraw, LookUp, Count}
 use Rattle.rules.specs.Kinds.{Kinds, Lawful, before}
 use Rattle.rules.specs.Plain.{answered, set-before}
-use Rattle.rules.specs.States.{State, Slot, Place, Waiter, empty, holds, leads}
+use Rattle.rules.specs.States.{State, Slot, Place, Waiter, empty}
 use Rattle.rules.specs.Queues.{numbered, behind}
-use Rattle.rules.specs.Changes.{put, with-queue, with-place, with-answer}
-use Rattle.rules.specs.Moves.{Step, Side, on-left, on-right, slot-on, with-slot-on, side-of, is-present, slot-for, enter-at, withdraw-at, count-steps, stepped-all, acted, moved}
+use Rattle.rules.specs.Changes.{with-queue, with-place, with-answer}
+use Rattle.rules.specs.Moves.{Step, Side, on-left, on-right, slot-on, with-slot-on, side-of, is-present, slot-for, enter-at, withdraw-at, count-steps, stepped-all, moved}
 use Rattle.rules.proofs.Bools.{both-true, or-left, or-right, or-neither, false-unless}
 use Rattle.rules.proofs.Befores.{was}
 use Rattle.rules.proofs.Trees.{Tree, bare, leaf, node, slot-of, inside, drawn-place, Drawn}
-use Rattle.rules.proofs.Goods.{below, Over, left-of, right-of, Mode-fits, Waiter-fits, Good}
+use Rattle.rules.proofs.Goods.{Over, left-of, right-of, Mode-fits, Good}
 use Rattle.rules.proofs.Insides.{inside-maker, inside-over, makers-apart}
 use Rattle.rules.proofs.Children.{enter-child, withdraw-child}
-use Rattle.rules.proofs.Pairs.{shown-pair, moved-pair, moved-node, moved-good}
-use Rattle.rules.proofs.Pends.{waiting, pending, On-way}
+use Rattle.rules.proofs.Pairs.{shown-pair, moved-node, moved-good}
+use Rattle.rules.proofs.Pends.{waiting, pending}
 use Rattle.rules.proofs.Alter.{Changed}
-use Rattle.rules.proofs.Puts.{put-here, put-other, apart-eqb, eqb-eq, drawn-put-queue}
+use Rattle.rules.proofs.Puts.{put-here, put-other, apart-eqb, drawn-put-queue}
 use Rattle.rules.proofs.Hangs.{topped, topped-inside, picked, other, hung, Drawn-anew, anew, anew-side}
 use Rattle.rules.proofs.Touches.{top-left, top-right}
-use Rattle.rules.proofs.Meets.{Rest, Writes, Meets, entered, withdrawn, entered-is, withdrawn-is, enter-meets, withdraw-meets}
+use Rattle.rules.proofs.Meets.{Writes, Meets, entered, withdrawn, entered-is, withdrawn-is, enter-meets, withdraw-meets}
 use Rattle.rules.proofs.Shares.{steps-added, counted-node}
 use Rattle.rules.proofs.Shows.{Top-once, Top-away, Counts, slot-pair-left, slot-pair-right, topped-pair-left, topped-pair-right}
 use Rattle.rules.proofs.Stepped.{steps-leave}

@@ -1,23 +1,22 @@
 -- An enter or a withdraw meets the tree under a slot, at the gate or at a place: the state that it leaves. Rests on Touches.
-use mathlib.Core.Path.{_≡_, refl, sym, ap, subst, _∙_}
+use mathlib.Core.Path.{_≡_, refl, sym, ap, _∙_}
 use mathlib.Core.Bool.{Bool, true, false, _||_}
 use mathlib.Core.List.{List, [], _∷_, _++_}
 use mathlib.Core.Logic.{_⊎_, inl, inr}
-use Prim.Native.Nat.{ℕ, zero, suc, _≤_, _<_}
+use Prim.Native.Nat.{ℕ}
 use native.Mathlib.Omega.{arith}
 use lib.Dec.{eqb}
-use Rattle.std.specs.declared.option.Option.{Option}
-use Rattle.std.specs.declared.option.Option.the-variants.{Some, None}
+use Rattle.std.specs.declared.option.Option.the-variants.{Some}
 use Rattle.requests.specs.declared.answer.Answer.the-variants as answer
 use Rattle.requests.specs.declared.request.Request.{Request}
 use Rattle.rules.specs.declared.mode.Mode.the-variants.{Between}
-use Rattle.rules.specs.Kinds.{Kinds, Lawful, greater, lesser}
-use Rattle.rules.specs.States.{State, Slot, Place, Waiter, empty, holds, leads}
+use Rattle.rules.specs.Kinds.{Kinds}
+use Rattle.rules.specs.States.{State, Slot, Waiter, empty, holds, leads}
 use Rattle.rules.specs.Queues.{stands}
-use Rattle.rules.specs.Changes.{put, with-answer, with-place, with-waiter}
-use Rattle.rules.specs.Moves.{with-tally, with-slot-for, with-joined, made-place, enter-at, withdraw-at}
+use Rattle.rules.specs.Changes.{with-answer, with-place, with-waiter}
+use Rattle.rules.specs.Moves.{with-slot-for, made-place, enter-at, withdraw-at}
 use Rattle.rules.proofs.Bools.{or-left, or-right}
-use Rattle.rules.proofs.Trees.{Tree, bare, leaf, node, slot-of, inside, drawn-place, Drawn}
+use Rattle.rules.proofs.Trees.{Tree, bare, leaf, node, slot-of, drawn-place, Drawn}
 use Rattle.rules.proofs.Goods.{Good}
 use Rattle.rules.proofs.Joins.{stands-append}
 use Rattle.rules.proofs.Children.{waiter, enter-child, withdraw-child}

@@ -1,8 +1,8 @@
 -- One move, as the service bound sees it: who moved where, and what became of tree and gate. Rests on Falls and Meets.
 use mathlib.Core.Path.{_≡_}
-use mathlib.Core.Bool.{Bool, true, false}
+use mathlib.Core.Bool.{true}
 use mathlib.Core.Logic.{_⊎_}
-use Prim.Native.Nat.{ℕ, zero, suc, _≤_, _<_}
+use Prim.Native.Nat.{ℕ, suc}
 use Rattle.rules.specs.States.{State}
 use Rattle.rules.specs.Queues.{heads}
 use Rattle.rules.proofs.Trees.{Tree}

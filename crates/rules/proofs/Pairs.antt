@@ -1,11 +1,10 @@
 -- The two trees below a place after its head has moved. Rests on Children.
-use mathlib.Core.Path.{_≡_, refl, sym, ap, subst, _∙_}
-use mathlib.Core.Bool.{Bool, true, false, cond, not, _&&_, _||_, true≢false}
-use mathlib.Core.List.{List, [], _∷_, _++_}
-use Prim.Native.Nat.{ℕ, zero, suc, _≤_, _<_}
+use mathlib.Core.Path.{_≡_, refl, subst}
+use mathlib.Core.Bool.{Bool, true, false, cond}
+use mathlib.Core.List.{List, [], _∷_}
+use Prim.Native.Nat.{ℕ, suc, _≤_, _<_}
 use native.Mathlib.Omega.{arith}
 use lib.ListN.{length}
-use Rattle.std.specs.declared.option.Option.{Option}
 use Rattle.std.specs.declared.option.Option.the-variants.{Some, None}
 use Rattle.requests.specs.declared.request.Request.{Request}
 use Rattle.requests.specs.declared.request.Request.the-variants.{Enter, Withdraw, LookUp, Count}
@@ -14,12 +13,12 @@ use Rattle.rules.specs.declared.mode.Mode.the-variants.{Between, From, Upto}
 use Rattle.rules.specs.Kinds.{Kinds, Lawful, same, before}
 use Rattle.rules.specs.States.{Waiter}
 use Rattle.rules.specs.Queues.{numbered}
-use Rattle.rules.specs.Moves.{Side, on-left, on-right, Step, show, add, count-steps}
+use Rattle.rules.specs.Moves.{on-left, on-right, Step, show, add, count-steps}
 use Rattle.rules.specs.Carries.{says}
 use Rattle.rules.proofs.Bools.{both-true}
 use Rattle.rules.proofs.Befores.{was, Still, still-within, unmoved-silent}
 use Rattle.rules.proofs.Trees.{Tree, bare, leaf, node}
-use Rattle.rules.proofs.Goods.{below, Over, left-of, right-of, Mode-fits, Waiter-fits, Place-good, Good}
+use Rattle.rules.proofs.Goods.{below, Over, left-of, right-of, Mode-fits, Waiter-fits, Good}
 use Rattle.rules.proofs.Later.{left-in, left-side, right-in, right-side, lined-below}
 use Rattle.rules.proofs.Joins.{node-moves, still-behind}
 use Rattle.rules.proofs.Children.{enter-child, withdraw-child, count-child, child-stays, child-entered, child-withdrawn, child-counted}

@@ -1,14 +1,13 @@
 -- Each kind of request leaving the gate. Rests on Gates, Meets, Shows and Shares.
 use mathlib.Core.Path.{_≡_, refl, sym, ap, subst, _∙_}
-use mathlib.Core.Bool.{Bool, true, false, cond, not, _&&_, _||_, true≢false}
-use mathlib.Core.List.{List, [], _∷_, _++_}
-use mathlib.Core.Logic.{_⊎_, inl, inr, ⊎-elim}
-use Prim.Native.Nat.{ℕ, zero, suc, _≤_, _<_}
+use mathlib.Core.Bool.{Bool, true, false, cond, _&&_, _||_, true≢false}
+use mathlib.Core.List.{List, [], _∷_}
+use mathlib.Core.Logic.{⊎-elim}
+use Prim.Native.Nat.{ℕ, suc, _<_}
 use native.Mathlib.Omega.{arith}
 use lib.Dec.{eqb}
 use lib.ListN.{length}
 use Rattle.std.specs.Options.{isSome}
-use Rattle.std.specs.declared.option.Option.{Option}
 use Rattle.std.specs.declared.option.Option.the-variants.{Some, None}
 use Rattle.std.proofs.shelf.Tests.{cases-eq}
 use Rattle.requests.specs.declared.answer.Answer.{Answer}
@@ -18,12 +17,12 @@ use Rattle.requests.specs.declared.request.Request.the-variants.{Enter, Withdra
 use Rattle.rules.specs.declared.mode.Mode.{Mode}
 use Rattle.rules.specs.declared.mode.Mode.the-variants.{Between}
 use Rattle.rules.specs.Kinds.{Kinds, Lawful, same}
-use Rattle.rules.specs.Plain.{answered, set-before, weight-of, within}
-use Rattle.rules.specs.States.{State, Slot, Place, Waiter, empty, holds, leads}
+use Rattle.rules.specs.Plain.{set-before, weight-of, within}
+use Rattle.rules.specs.States.{State, Waiter, empty}
 use Rattle.rules.specs.Queues.{numbered, stands, behind}
 use Rattle.rules.specs.Changes.{with-queue, with-answer, with-gate}
 use Rattle.rules.specs.Moves.{wanted, is-present, enter-at, withdraw-at, shown, moved, acted}
-use Rattle.rules.specs.Carries.{sought, says}
+use Rattle.rules.specs.Carries.{sought}
 use Rattle.rules.proofs.Bools.{or-first, or-second, false-unless}
 use Rattle.rules.proofs.Order.{same-eq}
 use Rattle.rules.proofs.Weights.{neutral-right}
@@ -34,11 +33,11 @@ use Rattle.rules.proofs.Goods.{Over, left-of, right-of, Good}
 use Rattle.rules.proofs.Children.{enter-child, withdraw-child, count-child, child-stays, child-entered, child-withdrawn, child-counted}
 use Rattle.rules.proofs.Insides.{inside-over}
 use Rattle.rules.proofs.Pairs.{over-enter, over-withdraw, over-count}
-use Rattle.rules.proofs.Pends.{waiting, share, queue-share, pending}
+use Rattle.rules.proofs.Pends.{waiting, queue-share, pending}
 use Rattle.rules.proofs.Puts.{put-here, put-other, apart-eqb, drawn-put-queue}
 use Rattle.rules.proofs.Hangs.{topped, topped-inside}
 use Rattle.rules.proofs.Touches.{top-left, top-right}
-use Rattle.rules.proofs.Meets.{Rest, Writes, Meets, entered, withdrawn, entered-is, withdrawn-is, enter-meets, withdraw-meets}
+use Rattle.rules.proofs.Meets.{Writes, Meets, entered, withdrawn, entered-is, withdrawn-is, enter-meets, withdraw-meets}
 use Rattle.rules.proofs.Shares.{added, shown-share}
 use Rattle.rules.proofs.Shows.{Top-once, Counts, slot-count, shown-counts, shown-drawn}
 use Rattle.rules.proofs.Sames.{grown-enter, grown-withdraw, grown-count, waits-enter, waits-withdraw, waits-count, pending-enter, pending-withdraw, pending-count}

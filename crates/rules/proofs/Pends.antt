@@ -1,14 +1,13 @@
 -- Who waits in a tree, what a count still has to add there, and the way of a key. Rests on Goods.
-use mathlib.Core.Path.{_≡_, refl, sym, ap, _∙_}
-use mathlib.Core.Bool.{Bool, true, false, cond, not, _&&_, _||_}
-use mathlib.Core.List.{List, [], _∷_, _++_}
+use mathlib.Core.Path.{_≡_}
+use mathlib.Core.Bool.{Bool, false, cond, _&&_, _||_}
+use mathlib.Core.List.{List, [], _∷_}
 use mathlib.Core.Logic.{_⊎_}
-use Prim.Native.Nat.{ℕ, zero, suc}
+use Prim.Native.Nat.{ℕ}
 use lib.Dec.{eqb}
-use Rattle.std.specs.declared.option.Option.{Option}
-use Rattle.std.specs.declared.option.Option.the-variants.{Some, None}
+use Rattle.std.specs.declared.option.Option.the-variants.{None}
 use Rattle.requests.specs.declared.request.Request.{Request}
-use Rattle.rules.specs.Kinds.{Kinds, Lawful, before}
+use Rattle.rules.specs.Kinds.{Kinds, before}
 use Rattle.rules.specs.Plain.{set-before, weight-of}
 use Rattle.rules.specs.States.{Waiter}
 use Rattle.rules.specs.Queues.{stands}

@@ -1,16 +1,15 @@
 -- Rows with one entry written, and trees whose own entries are not. Rests on Trees.
 use mathlib.Core.Path.{_≡_, refl, sym, ap, _∙_}
-use mathlib.Core.Bool.{Bool, true, false, cond, not, _&&_, _||_, true≢false}
-use mathlib.Core.List.{List, [], _∷_, _++_}
-use Prim.Native.Nat.{ℕ, zero, suc, _≤_, _<_}
+use mathlib.Core.Bool.{true, false, true≢false}
+use mathlib.Core.List.{List}
+use Prim.Native.Nat.{ℕ}
 use native.Mathlib.Omega.{arith}
 use lib.Dec.{eqb}
 use Rattle.std.specs.declared.option.Option.{Option}
-use Rattle.std.specs.declared.option.Option.the-variants.{Some, None}
-use Rattle.rules.specs.States.{Slot, Place, Waiter, empty, holds, leads}
+use Rattle.rules.specs.States.{Place, Waiter}
 use Rattle.rules.specs.Changes.{put}
 use Rattle.rules.proofs.Bools.{false-unless}
-use Rattle.rules.proofs.Trees.{Tree, bare, leaf, node, slot-of, inside, drawn-place, Drawn, drawn-frame}
+use Rattle.rules.proofs.Trees.{Tree, inside, Drawn, drawn-frame}
 
 pub put-here : {X : Type 0} (f : ℕ → X) (n : ℕ) (x : X) → put f n x n ≡ x
 put-here f n x = let e : eqb n n ≡ true = grind arith in rw e

@@ -1,5 +1,5 @@
 -- A count adds at a place exactly what it then no longer has to add. Rests on Sames.
-use mathlib.Core.Path.{_≡_, refl, sym, ap, ap₂, _∙_}
+use mathlib.Core.Path.{_≡_, refl, sym, ap, _∙_}
 use mathlib.Core.Bool.{Bool, true, false, cond, not, _&&_, _||_, true≢false}
 use mathlib.Core.List.{List, [], _∷_, _++_}
 use Prim.Native.Nat.{ℕ, pred}
@@ -9,7 +9,7 @@ use Rattle.requests.specs.declared.request.Request.{Request}
 use Rattle.requests.specs.declared.request.Request.the-variants.{Count}
 use Rattle.rules.specs.declared.mode.Mode.{Mode}
 use Rattle.rules.specs.declared.mode.Mode.the-variants.{Between, From, Upto}
-use Rattle.rules.specs.Kinds.{Kinds, Lawful, same, before}
+use Rattle.rules.specs.Kinds.{Kinds, Lawful, before}
 use Rattle.rules.specs.Plain.{set-before, weight-of}
 use Rattle.rules.specs.States.{Waiter}
 use Rattle.rules.specs.Moves.{on-left, on-right, Step, show, add, count-steps, wanted}
@@ -17,9 +17,9 @@ use Rattle.rules.proofs.Bools.{both-true, false-unless}
 use Rattle.rules.proofs.Order.{same-eq, le-before-trans}
 use Rattle.rules.proofs.Weights as weights
 use Rattle.rules.proofs.Times.{ascends-at}
-use Rattle.rules.proofs.Befores.{was, weight-before}
+use Rattle.rules.proofs.Befores.{weight-before}
 use Rattle.rules.proofs.Trees.{Tree, bare, leaf, node}
-use Rattle.rules.proofs.Goods.{left-of, right-of, Mode-fits, Place-good, Good}
+use Rattle.rules.proofs.Goods.{left-of, right-of, Mode-fits, Good}
 use Rattle.rules.proofs.Children.{waiter, count-child}
 use Rattle.rules.proofs.Pairs.{shown-pair, moved-node}
 use Rattle.rules.proofs.Pends.{share, queue-share, pending}

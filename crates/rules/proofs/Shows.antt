@@ -1,23 +1,18 @@
 -- A count is shown slots and adds wholes: the state that its steps leave. Rests on Touches.
-use mathlib.Core.Path.{_≡_, refl, sym, ap, subst, _∙_}
-use mathlib.Core.Bool.{Bool, true, false, cond, _||_, true≢false}
+use mathlib.Core.Path.{_≡_, refl, sym, ap, _∙_}
+use mathlib.Core.Bool.{Bool, true, false}
 use mathlib.Core.List.{List, [], _∷_, _++_}
-use Prim.Native.Nat.{ℕ, zero, suc, _≤_, _<_}
-use native.Mathlib.Omega.{arith}
+use Prim.Native.Nat.{ℕ}
 use lib.Dec.{eqb}
-use Rattle.std.specs.declared.option.Option.{Option}
-use Rattle.std.specs.declared.option.Option.the-variants.{Some, None}
 use Rattle.rules.specs.declared.mode.Mode.{Mode}
 use Rattle.rules.specs.Kinds.{Kinds, Lawful}
-use Rattle.rules.specs.States.{State, Slot, Place, Waiter, empty, holds, leads}
-use Rattle.rules.specs.Changes.{put, with-waiter}
-use Rattle.rules.specs.Moves.{Side, on-left, on-right, Step, show, add, slot-on, wanted, with-added, whole, shown, stepped, stepped-all}
-use Rattle.rules.proofs.Bools.{false-unless}
+use Rattle.rules.specs.States.{State}
+use Rattle.rules.specs.Moves.{on-left, on-right, Step, show, add, with-added, whole, shown}
 use Rattle.rules.proofs.Weights.{neutral-right}
-use Rattle.rules.proofs.Trees.{Tree, bare, leaf, node, slot-of, inside, drawn-place, Drawn, drawn-frame}
+use Rattle.rules.proofs.Trees.{Tree, bare, leaf, node, slot-of, inside, drawn-place, Drawn}
 use Rattle.rules.proofs.Children.{waiter, count-child}
 use Rattle.rules.proofs.Pairs.{shown-pair}
-use Rattle.rules.proofs.Puts.{put-here, put-other, apart-eqb, inside-apart}
+use Rattle.rules.proofs.Puts.{put-here, put-other}
 use Rattle.rules.proofs.Hangs.{topped}
 use Rattle.rules.proofs.Touches.{show-own}
 use Rattle.rules.proofs.Meets.{Rest}

@@ -1,20 +1,17 @@
 -- All steps of a count at a place, one after another. Rests on Shows.
 use mathlib.Core.Path.{_≡_, refl, sym, ap, subst, _∙_}
-use mathlib.Core.Bool.{Bool, true, false, cond, _||_, true≢false}
-use mathlib.Core.List.{List, [], _∷_, _++_}
+use mathlib.Core.Bool.{Bool, true, false, _||_, true≢false}
+use mathlib.Core.List.{List, [], _∷_}
 use Prim.Native.Nat.{ℕ}
-use lib.Dec.{eqb}
-use Rattle.rules.specs.declared.mode.Mode.{Mode}
 use Rattle.rules.specs.Kinds.{Kinds, Lawful}
-use Rattle.rules.specs.States.{State, Slot, Place, Waiter}
-use Rattle.rules.specs.Moves.{Side, on-left, on-right, Step, show, add, slot-on, with-added, whole, shown, stepped, stepped-all}
+use Rattle.rules.specs.States.{State, Place}
+use Rattle.rules.specs.Moves.{on-left, on-right, Step, show, add, with-added, whole, shown, stepped-all}
 use Rattle.rules.proofs.Bools.{or-first, or-second, false-unless}
 use Rattle.rules.proofs.Weights.{neutral-right}
 use Rattle.rules.proofs.Trees.{Tree, slot-of, inside, Drawn, drawn-frame}
 use Rattle.rules.proofs.Children.{count-child}
 use Rattle.rules.proofs.Pairs.{shown-pair}
 use Rattle.rules.proofs.Hangs.{topped}
-use Rattle.rules.proofs.Meets.{Rest}
 use Rattle.rules.proofs.Shares.{added, whole-of, steps-added}
 use Rattle.rules.proofs.Shows.{Top-once, Top-away, Counts, topped-count, inside-count, slot-count, once-count, steps-left, steps-right, shown-counts, shown-drawn, added-counts}
 

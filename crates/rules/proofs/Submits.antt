@@ -1,9 +1,9 @@
 -- A request more keeps the invariant. Rests on Keeps.
 use mathlib.Core.Path.{_≡_, refl, sym, ap, subst, _∙_}
-use mathlib.Core.Bool.{Bool, true, false, cond, _&&_, true≢false}
+use mathlib.Core.Bool.{Bool, true, false, cond, _&&_}
 use mathlib.Core.List.{List, [], _∷_, _++_}
 use mathlib.Core.Logic.{_⊎_, inl, inr, ⊎-elim}
-use Prim.Native.Nat.{ℕ, zero, suc, _≤_, _<_}
+use Prim.Native.Nat.{ℕ, suc, _≤_}
 use native.Mathlib.Omega.{arith}
 use lib.Dec.{eqb}
 use lib.ListN.{length, length-append}
@@ -14,24 +14,23 @@ use Rattle.requests.specs.declared.request.Request.{Request}
 use Rattle.requests.specs.declared.request.Request.the-variants.{Enter, Withdraw, LookUp, Count}
 use Rattle.rules.specs.declared.mode.Mode.{Mode}
 use Rattle.rules.specs.declared.mode.Mode.the-variants.{Between}
-use Rattle.rules.specs.declared.note.Note.the-variants as note
 use Rattle.rules.specs.Kinds.{Kinds, Lawful, before}
-use Rattle.rules.specs.Plain.{has, answered, set-before, weight-of, within}
+use Rattle.rules.specs.Plain.{has, answered, weight-of, within}
 use Rattle.rules.specs.States.{State, Waiter}
 use Rattle.rules.specs.Queues.{numbered, given}
-use Rattle.rules.specs.Changes.{put, with-request, with-waiter, with-uncollected}
+use Rattle.rules.specs.Changes.{with-request, with-waiter, with-uncollected}
 use Rattle.rules.specs.Moves.{wanted}
 use Rattle.rules.specs.Carries.{sought, says, later, last-word}
 use Rattle.rules.proofs.Bools.{bool-map, false-unless}
-use Rattle.rules.proofs.Times.{numbered-within, numbered-append, numbered-last}
-use Rattle.rules.proofs.Befores.{was, weight-before, Unmoved, before-append}
-use Rattle.rules.proofs.Trees.{Tree, bare, leaf, node, inside, Drawn}
-use Rattle.rules.proofs.Goods.{below, Lined, Over, left-of, right-of, Mode-fits, Waiter-fits, Queue-fits, Still-but, Place-good, Good}
+use Rattle.rules.proofs.Times.{numbered-within, numbered-append}
+use Rattle.rules.proofs.Befores.{was, before-append}
+use Rattle.rules.proofs.Trees.{Tree, bare, leaf, node, inside}
+use Rattle.rules.proofs.Goods.{below, Lined, left-of, right-of, Waiter-fits, Queue-fits, Good}
 use Rattle.rules.proofs.Later.{lined-below}
 use Rattle.rules.proofs.Insides.{inside-over}
-use Rattle.rules.proofs.Pends.{waiting, share, queue-share, pending, On-way}
+use Rattle.rules.proofs.Pends.{share, queue-share, pending, On-way}
 use Rattle.rules.proofs.Puts.{put-here, put-other, apart-eqb, eqb-eq, drawn-put-queue}
-use Rattle.rules.proofs.Holds.{In-turn, Everywhere, Bears, Walks, Holds}
+use Rattle.rules.proofs.Holds.{In-turn, Everywhere, Bears, Holds}
 use Rattle.rules.proofs.Descents.{in-turn-end}
 
 in-turn-append : (lo : ℕ) (q : List Waiter) (hi : ℕ) (m : Mode) → In-turn lo q hi → In-turn lo (q ++ (record { number = hi; mode = m } ∷ [])) (suc hi)

@@ -3,7 +3,6 @@ use mathlib.Core.Path.{_≡_, refl, sym, ap, _∙_}
 use mathlib.Core.Bool.{Bool, true, false, cond, true≢false}
 use mathlib.Core.List.{List, [], _∷_, _++_, append-assoc}
 use Prim.Native.Nat.{ℕ, zero, suc}
-use native.Mathlib.Omega.{arith}
 use lib.Dec.{eqb}
 use Rattle.std.specs.declared.option.Option.{Option}
 use Rattle.std.specs.declared.option.Option.the-variants.{Some, None}
@@ -15,10 +14,10 @@ use Rattle.rules.specs.declared.mode.Mode.{Mode}
 use Rattle.rules.specs.declared.mode.Mode.the-variants.{Between}
 use Rattle.rules.specs.Kinds.{Kinds, before}
 use Rattle.rules.specs.States.{State, Slot, Place, Waiter, empty, holds, leads}
-use Rattle.rules.specs.Queues.{heads, behind}
-use Rattle.rules.specs.Changes.{put, with-answer, with-counted, with-gate, with-place, with-queue, with-waiter}
-use Rattle.rules.specs.Moves.{Step, show, add, slot-on, with-slot-on, side-of, with-tally, is-present, slot-for, with-slot-for, with-joined, with-added, enter-at, withdraw-at, shown, stepped, stepped-all, count-steps, count-at, acted, moved}
-use Rattle.rules.proofs.Puts.{put-here, put-other, eqb-eq}
+use Rattle.rules.specs.Queues.{heads}
+use Rattle.rules.specs.Changes.{put, with-answer, with-counted, with-gate, with-place, with-waiter}
+use Rattle.rules.specs.Moves.{Step, show, add, slot-on, with-slot-on, side-of, with-tally, is-present, slot-for, with-slot-for, enter-at, withdraw-at, shown, stepped, stepped-all, count-steps, count-at, acted}
+use Rattle.rules.proofs.Puts.{put-other, eqb-eq}
 use Rattle.rules.proofs.Meets.{Rest}
 
 module _ {K T : Type 0} where

@@ -1,34 +1,31 @@
 -- A slot or a queue read for a decision tells what was: at the gate, and on the way down. Rests on Holds.
 use mathlib.Core.Path.{_≡_, refl, sym, ap, subst, _∙_}
-use mathlib.Core.Bool.{Bool, true, false, cond, not, _&&_, _||_, true≢false}
-use mathlib.Core.List.{List, [], _∷_, _++_}
-use mathlib.Core.Logic.{_⊎_, inl, inr, ⊎-elim}
+use mathlib.Core.Bool.{Bool, true, false, cond, not, true≢false}
+use mathlib.Core.List.{List, [], _∷_}
+use mathlib.Core.Logic.{inl, inr, ⊎-elim}
 use Prim.Native.Nat.{ℕ, zero, suc, _≤_, _<_}
 use native.Mathlib.Omega.{arith}
 use lib.Dec.{eqb}
 use lib.ListN.{length}
 use Rattle.std.specs.declared.option.Option.{Option}
 use Rattle.std.specs.declared.option.Option.the-variants.{Some, None}
-use Rattle.std.proofs.shelf.Tests.{cases-eq, cases-lt}
 use Rattle.requests.specs.declared.request.Request.{Request}
 use Rattle.rules.specs.Kinds.{Kinds, Lawful, same, before}
 use Rattle.rules.specs.States.{State, Slot, Place, Waiter, empty, holds, leads}
 use Rattle.rules.specs.Queues.{numbered, stands}
-use Rattle.rules.specs.Moves.{Side, on-left, on-right, slot-on, side-of, slot-for}
+use Rattle.rules.specs.Moves.{on-left, on-right, slot-on, side-of, slot-for}
 use Rattle.rules.specs.Carries.{sought, says, later, last-word}
 use Rattle.rules.proofs.Bools.{both-true, or-neither, false-unless}
 use Rattle.rules.proofs.Order.{same-sym}
 use Rattle.rules.proofs.Times.{told, numbered-some}
 use Rattle.rules.proofs.Befores.{was, Unmoved, was-next, was-steady}
 use Rattle.rules.proofs.Trees.{Tree, bare, leaf, node, slot-of, inside, drawn-place, Drawn}
-use Rattle.rules.proofs.Goods.{below, Lined, Over, left-of, right-of, Still-but, Place-good, Good}
+use Rattle.rules.proofs.Goods.{below, Lined, Over, left-of, right-of, Place-good, Good}
 use Rattle.rules.proofs.Later.{lined-below}
-use Rattle.rules.proofs.Joins.{stands-between}
-use Rattle.rules.proofs.Pends.{waiting, On-way}
-use Rattle.rules.proofs.Puts.{apart-eqb, eqb-eq}
-use Rattle.rules.proofs.Hangs.{picked}
+use Rattle.rules.proofs.Pends.{On-way}
+use Rattle.rules.proofs.Puts.{apart-eqb}
 use Rattle.rules.proofs.Effects.{slot-for-made}
-use Rattle.rules.proofs.Holds.{In-turn, Everywhere, Walks, Holds}
+use Rattle.rules.proofs.Holds.{Everywhere, Walks, Holds}
 use Rattle.rules.proofs.Insides.{inside-over}
 use Rattle.rules.proofs.Descents.{in-turn-end}
 

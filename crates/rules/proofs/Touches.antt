@@ -1,21 +1,20 @@
 -- A child that a request meets, drawn anew. Rests on Hangs.
-use mathlib.Core.Path.{_≡_, refl, sym, ap, subst, _∙_}
-use mathlib.Core.Bool.{Bool, true, false}
+use mathlib.Core.Path.{_≡_, ap, _∙_}
+use mathlib.Core.Bool.{Bool, false}
 use mathlib.Core.List.{List, [], _∷_, _++_}
-use Prim.Native.Nat.{ℕ, zero, suc, _≤_, _<_}
+use Prim.Native.Nat.{ℕ}
 use native.Mathlib.Omega.{arith}
-use lib.Dec.{eqb}
 use Rattle.std.specs.declared.option.Option.{Option}
-use Rattle.std.specs.declared.option.Option.the-variants.{Some, None}
+use Rattle.std.specs.declared.option.Option.the-variants.{Some}
 use Rattle.requests.specs.declared.request.Request.{Request}
-use Rattle.rules.specs.Kinds.{Kinds, Lawful}
-use Rattle.rules.specs.States.{Slot, Place, Waiter}
+use Rattle.rules.specs.Kinds.{Kinds}
+use Rattle.rules.specs.States.{Place, Waiter}
 use Rattle.rules.specs.Changes.{put}
 use Rattle.rules.proofs.Bools.{false-unless}
-use Rattle.rules.proofs.Trees.{Tree, bare, leaf, node, slot-of, inside, drawn-place, Drawn, drawn-frame}
-use Rattle.rules.proofs.Goods.{below, Over, left-of, right-of, Good}
+use Rattle.rules.proofs.Trees.{Tree, node, inside, drawn-place, Drawn}
+use Rattle.rules.proofs.Goods.{below, left-of, right-of, Good}
 use Rattle.rules.proofs.Insides.{inside-over}
-use Rattle.rules.proofs.Puts.{put-here, put-other, drawn-put-place, drawn-put-queue}
+use Rattle.rules.proofs.Puts.{put-here, drawn-put-place, drawn-put-queue}
 
 module _ {K T : Type 0} (pl : ℕ → Option (Place K T)) (qu : ℕ → List Waiter) (f : ℕ) (s : K) (t v : T) (q : List Waiter) (e : Waiter) (a b : Tree K T) where
   -- a request joins a place's queue

@@ -1,15 +1,15 @@
 -- A request that waits in the tree has made no place yet, and belongs where it waits. Rests on Insides.
 use mathlib.Core.Path.{_≡_, refl, sym, ap, subst, _∙_}
-use mathlib.Core.Bool.{Bool, true, false, cond, not, _&&_, _||_, true≢false}
+use mathlib.Core.Bool.{Bool, true, false, _||_, true≢false}
 use mathlib.Core.List.{List, [], _∷_}
-use Prim.Native.Nat.{ℕ, zero, suc, _≤_, _<_}
+use Prim.Native.Nat.{ℕ, _≤_, _<_}
 use native.Mathlib.Omega.{arith}
 use lib.Dec.{eqb}
 use Rattle.std.specs.declared.option.Option.{Option}
-use Rattle.std.specs.declared.option.Option.the-variants.{Some, None}
+use Rattle.std.specs.declared.option.Option.the-variants.{Some}
 use Rattle.requests.specs.declared.request.Request.{Request}
 use Rattle.requests.specs.declared.request.Request.the-variants.{Enter}
-use Rattle.rules.specs.Kinds.{Kinds, before}
+use Rattle.rules.specs.Kinds.{Kinds}
 use Rattle.rules.specs.States.{Place, Waiter}
 use Rattle.rules.specs.Queues.{numbered, stands}
 use Rattle.rules.proofs.Bools.{or-cases, or-left, or-right, or-neither, false-unless}
@@ -19,7 +19,7 @@ use Rattle.rules.proofs.Later.{left-in, right-in, lined-below}
 use Rattle.rules.proofs.Joins.{stands-between}
 use Rattle.rules.proofs.Pends.{waiting}
 use Rattle.rules.proofs.Puts.{apart-eqb, eqb-eq}
-use Rattle.rules.proofs.Insides.{Maker, inside-cases, inside-maker, makers-apart}
+use Rattle.rules.proofs.Insides.{inside-cases, inside-maker, makers-apart}
 
 -- who stands in a row of numbers is not before its head
 head-first : (i lo : ℕ) (q : List Waiter) (t : ℕ) → Lined lo q t → stands i q ≡ true → below q t ≤ i

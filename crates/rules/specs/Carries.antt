@@ -1,9 +1,8 @@
 -- What a carry does by the station's note.
-use mathlib.Core.Bool.{Bool, true, false, cond, not, _&&_, _||_}
+use mathlib.Core.Bool.{Bool, true, false, cond}
 use mathlib.Core.List.{List, [], _∷_}
 use Prim.Native.Nat.{ℕ, zero, suc}
 use lib.Dec.{eqb}
-use Rattle.std.specs.Options.{isSome}
 use Rattle.std.specs.declared.option.Option.{Option}
 use Rattle.std.specs.declared.option.Option.the-variants.{Some, None}
 use Rattle.requests.specs.declared.request.Request.{Request}
@@ -13,7 +12,7 @@ use Rattle.rules.specs.declared.carried.Carried.the-variants.{Late, Decided, W
 use Rattle.rules.specs.declared.note.Note.{Note}
 use Rattle.rules.specs.declared.note.Note.the-variants as note
 use Rattle.rules.specs.Kinds.{Kinds, same}
-use Rattle.rules.specs.States.{State, Slot, Place, Waiter, empty, holds, leads}
+use Rattle.rules.specs.States.{State, Slot, Waiter, empty, holds, leads}
 use Rattle.rules.specs.Queues.{numbered}
 use Rattle.rules.specs.Changes.{with-decision, with-note}
 use Rattle.rules.specs.Moves.{slot-for, moved}

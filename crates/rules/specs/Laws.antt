@@ -1,8 +1,8 @@
 -- What is true of every register, however it came to its state.
 use mathlib.Core.Path.{_≡_}
-use mathlib.Core.Bool.{Bool, true, false, cond}
+use mathlib.Core.Bool.{true, cond}
 use mathlib.Core.List.{List, [], _∷_}
-use Prim.Native.Nat.{ℕ, zero, suc, _+_, _*_, _/_, _≤_}
+use Prim.Native.Nat.{ℕ, suc, _+_, _*_, _/_, _≤_}
 use lib.Dec.{eqb}
 use Rattle.std.specs.declared.option.Option.the-variants.{Some}
 use Rattle.requests.specs.Stations.{is-station}
@@ -11,8 +11,8 @@ use Rattle.rules.specs.declared.note.Note.the-variants as note
 use Rattle.rules.specs.Kinds.{Kinds}
 use Rattle.rules.specs.Plain.{Ascends, answered, set-after, set-before}
 use Rattle.rules.specs.States.{State}
-use Rattle.rules.specs.Queues.{given, numbered, finished, final-answer}
-use Rattle.rules.specs.Calls.{Call, submit, follow, carry, collect, caller, has-note, after, after-all, run}
+use Rattle.rules.specs.Queues.{numbered, finished, final-answer}
+use Rattle.rules.specs.Calls.{Call, follow, carry, caller, has-note, after, after-all, run}
 use Rattle.rules.specs.ReadOff.{keys-listed, all-finished}
 
 module _ {K T : Type 0} (w : Kinds K T) where

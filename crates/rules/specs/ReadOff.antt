@@ -1,15 +1,15 @@
 -- Reading off: the keys from the gate's slot, left before right, when no request is unfinished.
-use mathlib.Core.Bool.{Bool, true, false, cond, not, _&&_, _||_}
+use mathlib.Core.Bool.{Bool, true, not, _&&_, _||_}
 use mathlib.Core.List.{List, [], _∷_, _++_}
 use Prim.Native.Nat.{ℕ, zero, suc}
-use lib.Dec.{leb, ltb}
+use lib.Dec.{ltb}
 use lib.ListN.{length}
 use Rattle.std.specs.declared.option.Option.{Option}
 use Rattle.std.specs.declared.option.Option.the-variants.{Some, None}
 use Rattle.std.specs.declared.result.Result.{Result}
 use Rattle.keys.specs.declared.refusal.Refusal.{Refusal}
 use Rattle.keys.specs.declared.refusal.Refusal.the-variants as no
-use Rattle.rules.specs.States.{State, Slot, Place, empty, holds, leads}
+use Rattle.rules.specs.States.{State, Slot, empty, holds, leads}
 use Rattle.rules.specs.Queues.{given, finished}
 use Rattle.rules.specs.Calls.{check, answer-by}
 

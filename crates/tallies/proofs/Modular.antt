@@ -1,7 +1,7 @@
 -- Joining modulo m keeps the laws of a tally. Assumes nothing.
 use mathlib.Core.Path.{_≡_, sym, ap, _∙_}
 use Prim.Native.Nat.{ℕ, _+_, _-_, _%_, _<_}
-use native.Mathlib.Nat.{add-assoc, add-comm, mod-add-mod, add-mod-mod, mod-eq-of-lt, mod-self, mod-mod}
+use native.Mathlib.Nat.{add-assoc, add-comm, mod-add-mod, add-mod-mod, mod-eq-of-lt, mod-self}
 use native.Mathlib.Omega.{arith}
 
 module _ (m : ℕ) where

@@ -52,3 +52,4 @@ pub mod Instance
 pub mod Finals
 pub mod Listing
 pub mod Registers
+pub mod FactsQueues

@@ -53,3 +53,4 @@ pub mod Finals
 pub mod Listing
 pub mod Registers
 pub mod FactsQueues
+pub mod FactsPlaces

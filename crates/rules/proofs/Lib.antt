@@ -54,3 +54,5 @@ pub mod Listing
 pub mod Registers
 pub mod FactsQueues
 pub mod FactsPlaces
+pub mod FactsFinished
+pub mod Facts

@@ -1,21 +1,20 @@
 -- A finished request stays finished and keeps its answer, whatever is called. Rests on Runs and Finals.
-use mathlib.Core.Path.{_≡_, refl, sym, ap, subst, _∙_}
-use mathlib.Core.Bool.{Bool, true, false, cond, not, true≢false}
+use mathlib.Core.Path.{_≡_, sym, ap, _∙_}
+use mathlib.Core.Bool.{true, false, true≢false}
 use mathlib.Core.List.{List, [], _∷_, _++_}
 use mathlib.Core.Logic.{_⊎_, inl, inr, ⊎-elim}
-use Prim.Native.Nat.{ℕ, zero, suc, _≤_, _<_}
+use Prim.Native.Nat.{ℕ, zero, suc, _<_}
 use native.Mathlib.Omega.{arith}
 use lib.Dec.{eqb}
 use lib.ListN.{length}
-use Rattle.std.specs.declared.option.Option.{Option}
-use Rattle.std.specs.declared.option.Option.the-variants.{Some, None}
+use Rattle.std.specs.declared.option.Option.the-variants.{Some}
 use Rattle.std.proofs.shelf.Tests.{cases-bool}
 use Rattle.requests.specs.declared.request.Request.{Request}
 use Rattle.rules.specs.Kinds.{Kinds, Lawful}
 use Rattle.rules.specs.Plain.{answered, set-before}
 use Rattle.rules.specs.States.{State, Waiter}
-use Rattle.rules.specs.Queues.{numbered, stands, heads, waits, finished, final-answer}
-use Rattle.rules.specs.Calls.{Call, caller, after}
+use Rattle.rules.specs.Queues.{numbered, stands, heads, waits, finished}
+use Rattle.rules.specs.Calls.{caller, after}
 use Rattle.rules.specs.Facts.{Finished-stays}
 use Rattle.rules.proofs.Bools.{or-left}
 use Rattle.rules.proofs.Times.{numbered-within, numbered-append}

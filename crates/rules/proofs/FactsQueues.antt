@@ -1,6 +1,6 @@
 -- Queues rise, and places are older than all that waits there and all that hangs below. Rests on Standings.
-use mathlib.Core.Path.{_≡_, refl, sym, ap, subst, _∙_}
-use mathlib.Core.Bool.{Bool, true, false, true≢false}
+use mathlib.Core.Path.{_≡_, sym, ap, subst, _∙_}
+use mathlib.Core.Bool.{Bool, true, true≢false}
 use mathlib.Core.List.{List, [], _∷_}
 use mathlib.Core.Logic.{⊎-elim}
 use Prim.Native.Nat.{ℕ, zero, suc, _≤_, _<_}
@@ -11,7 +11,7 @@ use Rattle.std.specs.declared.option.Option.the-variants.{Some, None}
 use Rattle.std.proofs.shelf.Tests.{cases-bool}
 use Rattle.requests.specs.declared.request.Request.{Request}
 use Rattle.rules.specs.Kinds.{Kinds}
-use Rattle.rules.specs.States.{State, Place, Waiter, empty, holds, leads}
+use Rattle.rules.specs.States.{State, Place, Waiter, leads}
 use Rattle.rules.specs.Moves.{Side, on-left, on-right, slot-on}
 use Rattle.rules.specs.Facts.{Below-all, Rises, Queues-rise, Older-than-queue, Older-than-below, Gate-oldest, Places-older}
 use Rattle.rules.proofs.Trees.{Tree, bare, leaf, node, slot-of, inside, drawn-place, Drawn}

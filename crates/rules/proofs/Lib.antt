@@ -53,6 +53,7 @@ pub mod Finals
 pub mod Listing
 pub mod Registers
 pub mod FactsQueues
+pub mod FactsWays
 pub mod FactsPlaces
 pub mod FactsFinished
 pub mod Facts

@@ -39,11 +39,11 @@ module _ {K T : Type 0} (w : Kinds K T) where
   abbrev pub right-of : (K → Bool) → K → K → Bool
   right-of R s k = R k && w .le s k
 
-  -- what a count in a mode may rely on in a region
+  -- what a count in a mode may rely on in a region: it has the ends of the count's range that are still to be met
   abbrev pub Mode-fits : (K → Bool) → K → K → Mode → Type 0
-  Mode-fits R lo hi Between = Unit {0}
-  Mode-fits R lo hi From = (k : K) → R k ≡ true → w .le k hi ≡ true
-  Mode-fits R lo hi Upto = (k : K) → R k ≡ true → w .le lo k ≡ true
+  Mode-fits R lo hi Between = (R lo ≡ true) × (w .le lo hi ≡ true → R hi ≡ true)
+  Mode-fits R lo hi From = (R lo ≡ true) × ((k : K) → R k ≡ true → w .le k hi ≡ true)
+  Mode-fits R lo hi Upto = (R hi ≡ true) × ((k : K) → R k ≡ true → w .le lo k ≡ true)
 
   -- a request that waits at a place: its key belongs there and it will change the set, or it is a count
   abbrev pub Waiter-fits : List (Request K) → (K → Bool) → ℕ → Mode → Option (Request K) → Type 0

@@ -52,3 +52,8 @@ pub mod Measures
 pub mod Turns
 pub mod Service
 pub mod Registers
+pub mod FactsQueues
+pub mod FactsWays
+pub mod FactsPlaces
+pub mod FactsFinished
+pub mod Facts

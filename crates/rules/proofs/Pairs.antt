@@ -62,6 +62,10 @@ over-count w p t m bare o = tt
 over-count w p t m (leaf j) o = tt
 over-count w p t m (node f s u q a b) o = o
 
+-- a key that is not before the split is at least the split
+not-before : {K T : Type 0} (w : Kinds K T) (s k : K) → before w k s ≡ false → w .le s k ≡ true
+not-before w s k e = grind arith
+
 module _ {K T : Type 0} (w : Kinds K T) (l : Lawful w) where
   -- a key of one side says nothing on the other
   other-right : (R : K → Bool) (s k x : K) → before w k s ≡ true → right-of w R s x ≡ true → same w x k ≡ false
@@ -136,14 +140,22 @@ module _ {K T : Type 0} (w : Kinds K T) (l : Lawful w) where
       up-right m = over-count w p (e .number) m b (g .1 .1)
 
       pair-counted : (m : Mode) → Mode-fits w R lo hi m → (c d : Bool) → w .le s lo ≡ c → before w hi s ≡ d → Pair-good (shown-pair w (e .number) (count-steps m c d) (a, b))
-      pair-counted Between fit true d f h = (g .1 .0, up-right Between, still-left, show-right Between tt)
-      pair-counted Between fit false true f h = (up-left Between, g .1 .1, show-left Between tt, still-right)
+      pair-counted Between fit true d f h =
+          (g .1 .0, up-right Between, still-left, show-right Between (both-true (fit .0) f, λ z. both-true (fit .1 z) (l .transitive s lo hi f z)))
+      pair-counted Between fit false true f h =
+          (up-left Between, g .1 .1, show-left Between (both-true (fit .0) (ap not f), λ z. both-true (fit .1 z) h), still-right)
       pair-counted Between fit false false f h =
-          (up-left From, up-right Upto, show-left From (λ k r. from-left R s hi k h r), show-right Upto (λ k r. upto-right R s lo k f r))
-      pair-counted From fit true d f h = (g .1 .0, up-right From, still-left, show-right From (λ k r. fit k (right-in w R s k r)))
-      pair-counted From fit false d f h = (up-left From, g .1 .1, show-left From (λ k r. fit k (left-in w R s k r)), still-right)
-      pair-counted Upto fit c true f h = (up-left Upto, g .1 .1, show-left Upto (λ k r. fit k (left-in w R s k r)), still-right)
-      pair-counted Upto fit c false f h = (g .1 .0, up-right Upto, still-left, show-right Upto (λ k r. fit k (right-in w R s k r)))
+          ( up-left From , up-right Upto
+          , show-left From (both-true (fit .0) (ap not f), λ k r. from-left R s hi k h r)
+          , show-right Upto (both-true (fit .1 (l .transitive lo s hi (l .total s lo f) (not-before w s hi h))) (not-before w s hi h), λ k r. upto-right R s lo k f r))
+      pair-counted From fit true d f h =
+          (g .1 .0, up-right From, still-left, show-right From (both-true (fit .0) f, λ k r. fit .1 k (right-in w R s k r)))
+      pair-counted From fit false d f h =
+          (up-left From, g .1 .1, show-left From (both-true (fit .0) (ap not f), λ k r. fit .1 k (left-in w R s k r)), still-right)
+      pair-counted Upto fit c true f h =
+          (up-left Upto, g .1 .1, show-left Upto (both-true (fit .0) h, λ k r. fit .1 k (left-in w R s k r)), still-right)
+      pair-counted Upto fit c false f h =
+          (g .1 .0, up-right Upto, still-left, show-right Upto (both-true (fit .0) (not-before w s hi h), λ k r. fit .1 k (right-in w R s k r)))
 
     pair-moved : (r : Request K) → numbered rs (e .number) ≡ Some r → Waiter-fits w rs R (e .number) (e .mode) (Some r) → Pair-good (moved-pair w r (e .number) (e .mode) s a b)
     pair-moved (Enter k) num fit = pair-entered k num (fit .0) (fit .1) (before w k s) refl

@@ -262,7 +262,7 @@ module _ {K T : Type 0} (w : Kinds K T) (l : Lawful w) (s : State K T) (x : Tree
       others = others;
       over = over-count w 0 time Between x (h .over);
       queue = did .queue 0 (top-gate w l s x time h (Count lo hi) num) ∙ put-here (s .queue) 0 (behind (s .queue 0));
-      good = child-counted w l (s .requests) any time (suc time) (omega arith) (still-now w l s x time h (Count lo hi) num) lo hi num Between x tt (h .good);
+      good = child-counted w l (s .requests) any time (suc time) (omega arith) (still-now w l s x time h (Count lo hi) num) lo hi num Between x (refl, λ z. refl) (h .good);
       answer = λ out. tt;
       waits = waits-count w time Between x;
       pends = λ i lo₁ hi₁ other. pending-count w l (s .requests) time Between x i lo₁ hi₁ any other;

@@ -9,3 +9,4 @@ pub mod Carries
 pub mod Calls
 pub mod ReadOff
 pub mod Laws
+pub mod Facts

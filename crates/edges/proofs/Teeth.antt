@@ -1,9 +1,8 @@
 -- Each shortcut computed in its run, and held against the law that it breaks.
 use mathlib.Core.Path.{_≡_, refl, ap, sym, _∙_}
-use mathlib.Core.Bool.{Bool, true, false, not, true≢false}
-use mathlib.Core.List.{List, [], _∷_, _++_}
+use mathlib.Core.Bool.{true, false, true≢false}
 use native.Mathlib.Omega.{arith}
-use Prim.Native.Nat.{ℕ, zero, suc, _+_}
+use Prim.Native.Nat.{ℕ, _+_}
 use lib.Dec.{eqb}
 use lib.ListN.{length}
 use Rattle.std.specs.declared.option.Option.{Option}
@@ -15,8 +14,7 @@ use Rattle.requests.specs.declared.answer.Answer.{Answer}
 use Rattle.requests.specs.declared.answer.Answer.the-variants.{Changed, Unchanged, Present, Absent, Counted}
 use Rattle.requests.specs.declared.request.Request.{Request}
 use Rattle.requests.specs.declared.request.Request.the-variants.{Enter, LookUp, Count}
-use Rattle.rules.specs.Kinds.{Kinds}
-use Rattle.rules.specs.Plain.{answered, set-before, set-after}
+use Rattle.rules.specs.Plain.{answered, set-before}
 use Rattle.rules.specs.States.{State}
 use Rattle.rules.specs.Queues.{numbered, finished, final-answer}
 use Rattle.rules.specs.Calls.{run}
@@ -26,8 +24,7 @@ use Rattle.edges.specs.Worked.{routes-by-number, route}
 use Rattle.edges.specs.Waiting.{waiting}
 use Rattle.edges.specs.Forking.{forking}
 use Rattle.edges.specs.Cases.{help-twice, twice}
-use Rattle.edges.specs.Ways.{Ways}
-use Rattle.edges.specs.Shortcuts.{slots-alone, first-match, blind, tally-last, always-late, no-count}
+use Rattle.edges.specs.Shortcuts.{slots-alone, first-match, blind, tally-last, no-count}
 use Rattle.edges.specs.Teeth.{reached, moved-twice-counted, weightless, Slots-alone-break, First-match-breaks, Blind-listing-breaks, Blind-count-breaks, First-comer-differs, Tally-last-breaks, Always-late-breaks, No-count-breaks, Weightless-miscounts, Uncompared-unlawful}
 
 -- the number by which an answer is told from others; counts have those from 5 on
@@ -49,29 +46,29 @@ breaks s t r a b is-r ends bears plain apart law =
 
 pub slots-alone-break : Slots-alone-break
 slots-alone-break =
-    (refl, breaks (reached (slots-alone routes-by-number) (calls-in waiting)) 4 (LookUp (route 20 30 M)) 4 3 refl refl refl refl refl)
+    (refl, breaks (reached slots-alone (calls-in waiting)) 4 (LookUp (route 20 30 M)) 4 3 refl refl refl refl refl)
 
 pub first-match-breaks : First-match-breaks
 first-match-breaks =
-    (refl, breaks (reached (first-match routes-by-number) (calls-in waiting)) 6 (LookUp (route 20 30 M)) 3 4 refl refl refl refl refl)
+    (refl, breaks (reached first-match (calls-in waiting)) 6 (LookUp (route 20 30 M)) 3 4 refl refl refl refl refl)
 
 pub blind-count-breaks : Blind-count-breaks
 blind-count-breaks = (
   refl,
-  breaks (reached (blind routes-by-number) moved-twice-counted) 2 (Count (route 10 14 M) (route 12 14 S)) 7 6 refl refl refl refl refl,
+  breaks (reached blind moved-twice-counted) 2 (Count (route 10 14 M) (route 12 14 S)) 7 6 refl refl refl refl refl,
 )
 
 pub tally-last-breaks : Tally-last-breaks
 tally-last-breaks = (
   refl,
-  breaks (reached (tally-last routes-by-number) (calls-in forking)) 7 (Count (route 7 1 M) (route 25 1 M)) 8 7 refl refl refl refl refl,
+  breaks (reached tally-last (calls-in forking)) 7 (Count (route 7 1 M) (route 25 1 M)) 8 7 refl refl refl refl refl,
 )
 
 pub no-count-breaks : No-count-breaks
 no-count-breaks = (
   refl,
-  breaks (reached (no-count routes-by-number) (twice (route 12 14 M))) 3 (Count (route 12 14 M) (route 12 14 M)) 5 6
-  refl refl refl refl refl,
+  breaks (reached no-count (twice (route 12 14 M))) 3 (Count (route 12 14 M) (route 12 14 M)) 5 6
+      refl refl refl refl refl,
 )
 
 -- the listing has two routes, and the plain set one
@@ -79,8 +76,8 @@ pub blind-listing-breaks : Blind-listing-breaks
 blind-listing-breaks = (
   refl,
   λ law.
-  let longer : _≡_ {A = ℕ} 2 1 = ap length (law refl .0) in
-  absurd (omega arith),
+      let longer : _≡_ {A = ℕ} 2 1 = ap length (law refl .0) in
+      absurd (omega arith),
 )
 
 pub first-comer-differs : First-comer-differs
@@ -91,8 +88,8 @@ pub always-late-breaks : Always-late-breaks
 always-late-breaks = (
   refl,
   λ law.
-  true≢false
-  (sym (law 2 1 (Enter (route 12 14 M)) (help-twice 2 1) refl refl refl ((λ _. refl), ((λ _. refl), ((λ _. refl), ((λ _. refl), tt)))) (omega arith))),
+      true≢false
+      (sym (law 2 1 (Enter (route 12 14 M)) (help-twice 2 1) refl refl refl ((λ _. refl), ((λ _. refl), ((λ _. refl), ((λ _. refl), tt)))) (omega arith))),
 )
 
 -- what weighs nothing is joined by the same laws; the count is zero, and there is a key

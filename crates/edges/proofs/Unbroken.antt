@@ -1,5 +1,5 @@
 -- Shortcuts that break no law, since they come to no state that the rules do not come to.
-use mathlib.Core.Path.{_≡_, refl, ap, sym, _∙_}
+use mathlib.Core.Path.{_≡_, refl, ap, sym, subst, _∙_}
 use mathlib.Core.Bool.{Bool, true, false, not, cond}
 use mathlib.Core.List.{List, [], _∷_, _++_}
 use native.Mathlib.Omega.{arith}
@@ -16,11 +16,11 @@ use Rattle.requests.specs.declared.answer.Answer.{Answer}
 use Rattle.rules.specs.declared.note.Note.the-variants as note
 use Rattle.rules.specs.Kinds.{Kinds}
 use Rattle.rules.specs.States.{State, opening}
-use Rattle.rules.specs.Queues.{given, finished}
+use Rattle.rules.specs.Queues.{given, numbered, finished}
 use Rattle.rules.specs.Changes.{with-note, with-uncollected}
 use Rattle.rules.specs.Calls.{Call, submit, follow, carry, collect, check, state-by, submit-refusal, followed-place, followed-head, after, after-all}
-use Rattle.rules.specs.Laws.{turn, enough}
-use Rattle.edges.specs.Ways.{steps, run-of}
+use Rattle.rules.specs.Laws.{Answers-are-plain, Reading-is-plain, turn, enough}
+use Rattle.edges.specs.Ways.{steps, run-of, Service-ends-in}
 use Rattle.edges.specs.Shortcuts.{always-full, turns, at-once}
 use Rattle.edges.specs.Worked.{routes-by-number}
 use Rattle.edges.specs.Teeth.{Always-full-differs, At-once-differs}
@@ -31,6 +31,9 @@ refused : {S : Type 0} (b : Bool) (e f : Refusal) (old new : S) → state-by (ch
 refused true e f old new = refl
 refused false e f old new = refl
 
+no-request : {X : Type 0} (t : ℕ) (x : X) → numbered [] t ≡ Some x → ⊥
+no-request t x e = let z : _≡_ {A = ℕ} 0 1 = cc in absurd (omega arith)
+
 none-given : (t : ℕ) → leb (suc t) 0 ≡ false
 none-given t = grind arith
 
@@ -39,7 +42,7 @@ module _ {K T : Type 0} (w : Kinds K T) where
     -- nobody has anything to collect at the opening
     uncollected : (n : ℕ) (b : Bool)
         → elim (cond {A = Result (ℕ × Answer T) Refusal} b (Err no.NothingToCollect) (Err no.NoStation)) as (λ _. State K T) [
-          Ok a ↦ with-uncollected (opening w cells) n None
+          | Ok a ↦ with-uncollected (opening w cells) n None
           | Err e ↦ opening w cells
         ]
         ≡ opening w cells
@@ -53,9 +56,9 @@ module _ {K T : Type 0} (w : Kinds K T) where
     stays (follow n (suc t)) =
         ap
         (λ b. state-by
-          (check (not (is-station n)) no.NoStation (check (not b) no.NotGiven (check (finished (opening w cells) (suc t)) no.Finished None)))
-          (opening w cells)
-          (with-note (opening w cells) n (note.Saw (followed-head w (opening w cells) (suc t)) (followed-place w (opening w cells) (suc t)))))
+        (check (not (is-station n)) no.NoStation (check (not b) no.NotGiven (check (finished (opening w cells) (suc t)) no.Finished None)))
+        (opening w cells)
+        (with-note (opening w cells) n (note.Saw (followed-head w (opening w cells) (suc t)) (followed-place w (opening w cells) (suc t)))))
         (none-given t)
         ∙ refused (not (is-station n)) _ _ _ _
     stays (carry n) = refused (not (is-station n)) _ _ _ _
@@ -64,6 +67,14 @@ module _ {K T : Type 0} (w : Kinds K T) where
     pub always-full-stays : (cs : List (Call K)) → run-of w (always-full w) cells cs ≡ opening w cells
     always-full-stays [] = refl
     always-full-stays (c ∷ cs) = ap (λ s. steps w (always-full w) s cs) (stays c) ∙ always-full-stays cs
+
+    -- there are no requests at the opening, and no keys
+    full-laws : Answers-are-plain w (opening w cells) × Service-ends-in w (always-full w) (opening w cells) × Reading-is-plain w (opening w cells)
+    full-laws = (
+      (λ t r e. absurd (no-request t r e)),
+      (λ n t r cs a e. absurd (no-request t r e)),
+      (λ e. (refl, tt)),
+    )
 
   -- calls that lead from a state to another by the rules
   abbrev Leads : State K T → State K T → Type 0
@@ -95,7 +106,18 @@ module _ {K T : Type 0} (w : Kinds K T) where
       (first .0 ++ rest .0, rest .1 ∙ ap (λ a. after-all w a (rest .0)) (first .1) ∙ sym (after-both w s (first .0) (rest .0)))
 
 pub always-full-differs : Always-full-differs
-always-full-differs = (always-full-stays routes-by-number, refl, refl)
+always-full-differs = (
+  (λ cells cs.
+      let stays = sym (always-full-stays routes-by-number cells cs) in
+      let laws = full-laws routes-by-number cells in (
+        sym stays,
+        subst (Answers-are-plain routes-by-number) stays (laws .0),
+        subst (Service-ends-in routes-by-number (always-full routes-by-number)) stays (laws .1),
+        subst (Reading-is-plain routes-by-number) stays (laws .2),
+      )),
+  refl,
+  refl,
+)
 
 pub at-once-differs : At-once-differs
 at-once-differs = ((λ cells cs. at-once-leads routes-by-number (opening routes-by-number cells) cs), refl, refl)

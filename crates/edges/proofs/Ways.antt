@@ -1,5 +1,5 @@
 -- With the rules' own ways and step, the registers of specs/Ways are the rules.
-use mathlib.Core.Path.{_≡_, refl, ap, sym, subst, _∙_}
+use mathlib.Core.Path.{_≡_, refl, ap, sym, _∙_}
 use mathlib.Core.Bool.{Bool, true, false, cond}
 use mathlib.Core.List.{List, [], _∷_}
 use borrow.Author.Tests.{eqb-true}
@@ -14,10 +14,10 @@ use Rattle.rules.specs.declared.note.Note.the-variants as note
 use Rattle.rules.specs.Kinds.{Kinds}
 use Rattle.rules.specs.States.{State, Waiter}
 use Rattle.rules.specs.Queues.{numbered, behind, finished}
-use Rattle.rules.specs.Carries.{sought, late, move, at-gate, at-head, saw, look, walk, carried}
+use Rattle.rules.specs.Carries.{sought, late, at-gate, at-head, saw, walk, carried}
 use Rattle.rules.specs.Calls.{Call, submit, follow, carry, collect, state-by, carry-refusal, after, after-all}
 use Rattle.rules.specs.Laws.{Serves}
-use Rattle.edges.specs.Ways.{Ways, rules-ways, if-noted, move-by, at-gate-by, at-head-by, saw-by, walk-by, carried-by, after-by, steps, Serves-in, Rules-by-their-ways, Service-by-the-rules}
+use Rattle.edges.specs.Ways.{rules-ways, if-noted, at-gate-by, at-head-by, saw-by, walk-by, carried-by, steps, Serves-in, Rules-by-their-ways, Service-by-the-rules}
 
 module _ {K T : Type 0} (w : Kinds K T) where
   module _ (s : State K T) (n : ℕ) where

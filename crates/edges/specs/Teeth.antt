@@ -1,5 +1,5 @@
--- The laws of a register refuse shortcuts: each shortcut breaks a law in a run, or, where it breaks none, answers
--- otherwise than the rules. The runs are of routes counted by number.
+-- The laws of a register have teeth: a register that takes a shortcut breaks one of them in a run, or else a call of it
+-- answers otherwise than the rules say. The runs are of routes counted by number.
 use mathlib.Core.Path.{_≡_}
 use mathlib.Core.Bool.{true, false}
 use mathlib.Core.List.{List, [], _∷_, _++_}
@@ -20,10 +20,10 @@ use Rattle.rules.specs.Kinds.{Kinds, Lawful}
 use Rattle.rules.specs.Plain.{set-before}
 use Rattle.rules.specs.States.{State, opening}
 use Rattle.rules.specs.Queues.{finished, final-answer}
-use Rattle.rules.specs.Calls.{Call, submit, follow, carry, run, submit-answer, follow-answer, carry-answer}
+use Rattle.rules.specs.Calls.{Call, submit, carry, run, submit-answer, follow-answer, carry-answer}
 use Rattle.rules.specs.ReadOff.{keys-listed}
 use Rattle.rules.specs.Laws.{Answers-are-plain, Reading-is-plain}
-use Rattle.edges.specs.Tables.{Line, calls-in}
+use Rattle.edges.specs.Tables.{calls-in}
 use Rattle.edges.specs.Worked.{routes-by-number, route}
 use Rattle.edges.specs.Waiting.{waiting}
 use Rattle.edges.specs.Forking.{forking}
@@ -32,20 +32,20 @@ use Rattle.edges.specs.Ways.{Ways, after-by, carry-answer-by, run-of, Service-
 use Rattle.edges.specs.Shortcuts.{slots-alone, first-match, blind, first-comer, tally-last, always-late, no-count, full-answer, always-full, at-once}
 
 -- the state that calls lead to in a register with these ways, over 64 cells
-abbrev pub reached : Ways Route Number → List (Call Route) → State Route Number
-reached ways cs = run-of routes-by-number (after-by routes-by-number ways) 64 cs
+abbrev pub reached : (Kinds Route Number → Ways Route Number) → List (Call Route) → State Route Number
+reached ways cs = run-of routes-by-number (after-by routes-by-number (ways routes-by-number)) 64 cs
 
 -- Deciding from the slots alone: in the second worked run, look-up 4 does not find the route that enter 3 brings.
 abbrev pub Slots-alone-break : Type 0
 Slots-alone-break =
-    (final-answer (reached (slots-alone routes-by-number) (calls-in waiting)) 4 ≡ Some Absent)
-    × (Answers-are-plain routes-by-number (reached (slots-alone routes-by-number) (calls-in waiting)) → ⊥)
+    (final-answer (reached slots-alone (calls-in waiting)) 4 ≡ Some Absent)
+    × (Answers-are-plain routes-by-number (reached slots-alone (calls-in waiting)) → ⊥)
 
 -- Taking the first match: there, look-up 6 goes by enter 3, though withdraw 5 came in between.
 abbrev pub First-match-breaks : Type 0
 First-match-breaks =
-    (final-answer (reached (first-match routes-by-number) (calls-in waiting)) 6 ≡ Some Present)
-    × (Answers-are-plain routes-by-number (reached (first-match routes-by-number) (calls-in waiting)) → ⊥)
+    (final-answer (reached first-match (calls-in waiting)) 6 ≡ Some Present)
+    × (Answers-are-plain routes-by-number (reached first-match (calls-in waiting)) → ⊥)
 
 -- two stations see an enter, decided, at the gate, and both move it
 abbrev pub moved-twice : List (Call Route)
@@ -58,14 +58,14 @@ moved-twice-counted = moved-twice ++ (submit 2 (Count (route 10 14 M) (route 12 
 -- Moving without looking at the head again: the enter is done twice, and reading off lists its route twice.
 abbrev pub Blind-listing-breaks : Type 0
 Blind-listing-breaks =
-    (keys-listed (reached (blind routes-by-number) moved-twice) ≡ route 12 14 M ∷ route 12 14 M ∷ [])
-    × (Reading-is-plain routes-by-number (reached (blind routes-by-number) moved-twice) → ⊥)
+    (keys-listed (reached blind moved-twice) ≡ route 12 14 M ∷ route 12 14 M ∷ [])
+    × (Reading-is-plain routes-by-number (reached blind moved-twice) → ⊥)
 
 -- A count then gives 2 for this one route.
 abbrev pub Blind-count-breaks : Type 0
 Blind-count-breaks =
-    (final-answer (reached (blind routes-by-number) moved-twice-counted) 2 ≡ Some (Counted (number-of 2)))
-    × (Answers-are-plain routes-by-number (reached (blind routes-by-number) moved-twice-counted) → ⊥)
+    (final-answer (reached blind moved-twice-counted) 2 ≡ Some (Counted (number-of 2)))
+    × (Answers-are-plain routes-by-number (reached blind moved-twice-counted) → ⊥)
 
 -- an enter was moved by one of the two that saw it, and a look-up heads the gate in its stead
 abbrev pub overtaken : List (Call Route)
@@ -75,29 +75,29 @@ overtaken =
 -- Taking whoever heads now for the noted request: the other carry decides the look-up, where the rules answer late.
 abbrev pub First-comer-differs : Type 0
 First-comer-differs =
-    (carry-answer-by routes-by-number (first-comer routes-by-number) (reached (first-comer routes-by-number) overtaken) 2 ≡ Ok Decided)
+    (carry-answer-by routes-by-number (first-comer routes-by-number) (reached first-comer overtaken) 2 ≡ Ok Decided)
     × (carry-answer routes-by-number (run routes-by-number 64 overtaken) 2 ≡ Ok Late)
 
 -- Changing the tally of a place on leaving: in the third worked run, count 7 has the route that withdraw 6 takes out.
 abbrev pub Tally-last-breaks : Type 0
 Tally-last-breaks =
-    (final-answer (reached (tally-last routes-by-number) (calls-in forking)) 7 ≡ Some (Counted (number-of 3)))
-    × (Answers-are-plain routes-by-number (reached (tally-last routes-by-number) (calls-in forking)) → ⊥)
+    (final-answer (reached tally-last (calls-in forking)) 7 ≡ Some (Counted (number-of 3)))
+    × (Answers-are-plain routes-by-number (reached tally-last (calls-in forking)) → ⊥)
 
 -- Being late while the head still stands: the four calls that suffice for request 1 leave it unfinished.
 abbrev pub Always-late-breaks : Type 0
 Always-late-breaks =
-    (finished (reached (always-late routes-by-number) (submit 1 (Enter (route 12 14 M)) ∷ help-twice 2 1)) 1 ≡ false)
+    (finished (reached always-late (submit 1 (Enter (route 12 14 M)) ∷ help-twice 2 1)) 1 ≡ false)
     × (Service-ends-in routes-by-number
-      (after-by routes-by-number (always-late routes-by-number))
-      (reached (always-late routes-by-number) (submit 1 (Enter (route 12 14 M)) ∷ []))
-      → ⊥)
+    (after-by routes-by-number (always-late routes-by-number))
+    (reached always-late (submit 1 (Enter (route 12 14 M)) ∷ []))
+    → ⊥)
 
 -- Counts always zero: a route that was entered is not counted.
 abbrev pub No-count-breaks : Type 0
 No-count-breaks =
-    (final-answer (reached (no-count routes-by-number) (twice (route 12 14 M))) 3 ≡ Some (Counted (number-of 0)))
-    × (Answers-are-plain routes-by-number (reached (no-count routes-by-number) (twice (route 12 14 M))) → ⊥)
+    (final-answer (reached no-count (twice (route 12 14 M))) 3 ≡ Some (Counted (number-of 0)))
+    × (Answers-are-plain routes-by-number (reached no-count (twice (route 12 14 M))) → ⊥)
 
 -- routes that weigh nothing
 abbrev pub weightless : Kinds Route Number
@@ -133,19 +133,28 @@ abbrev pub Uncompared-unlawful : Type 0
 Uncompared-unlawful =
     (((a b : Route) → uncompared .le a b ≡ true → uncompared .le b a ≡ true → a ≡ b) → ⊥) × (Lawful uncompared → ⊥)
 
--- Always full: such a register stays as it was opened, so it breaks no law. It is refused by the answer of submit.
+-- the state that calls lead to in a register that is always full
+abbrev pub full-reached : ℕ → List (Call Route) → State Route Number
+full-reached cells cs = run-of routes-by-number (always-full routes-by-number) cells cs
+
+-- Always full: such a register stays as it was opened, and the three laws are true of it, since it has no requests.
+-- It is refused by the answer of submit.
 abbrev pub Always-full-differs : Type 0
 Always-full-differs =
-    ((cells : ℕ) (cs : List (Call Route)) → run-of routes-by-number (always-full routes-by-number) cells cs ≡ opening routes-by-number cells)
+    ((cells : ℕ) (cs : List (Call Route))
+    → (full-reached cells cs ≡ opening routes-by-number cells)
+    × Answers-are-plain routes-by-number (full-reached cells cs)
+    × Service-ends-in routes-by-number (always-full routes-by-number) (full-reached cells cs)
+    × Reading-is-plain routes-by-number (full-reached cells cs))
     × (full-answer routes-by-number (opening routes-by-number 1) 1 (Enter (route 12 14 M)) ≡ Err Full)
     × (submit-answer routes-by-number (opening routes-by-number 1) 1 (Enter (route 12 14 M)) ≡ Ok 1)
 
--- Working all out at once: such a register comes to no state that the rules do not come to by more calls, so it breaks
--- no law. It is refused by the answer of follow, which is to find the request at the gate, at the head there.
+-- Working all out at once: such a register comes to no state but those that the rules come to by more calls, so answers
+-- and listings are plain as theirs. It is refused by the answer of follow, which is to find the first request at the gate.
 abbrev pub At-once-differs : Type 0
 At-once-differs =
     ((cells : ℕ) (cs : List (Call Route))
-      → (more : List (Call Route)) × (run-of routes-by-number (at-once routes-by-number) cells cs ≡ run routes-by-number cells more))
+    → (more : List (Call Route)) × (run-of routes-by-number (at-once routes-by-number) cells cs ≡ run routes-by-number cells more))
     × (follow-answer routes-by-number (run-of routes-by-number (at-once routes-by-number) 64 (submit 1 (Enter (route 12 14 M)) ∷ [])) 1 1 ≡ Err Finished)
     × (follow-answer routes-by-number (run routes-by-number 64 (submit 1 (Enter (route 12 14 M)) ∷ [])) 1 1 ≡ Ok (0, 1))
 

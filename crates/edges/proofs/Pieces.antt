@@ -6,7 +6,7 @@ use Rattle.rules.specs.States.{State}
 use Rattle.rules.specs.Calls.{Call, after, after-all}
 
 module _ {K T : Type 0} (w : Kinds K T) where
-  after-both : (s : State K T) (xs ys : List (Call K)) → after-all w s (xs ++ ys) ≡ after-all w (after-all w s xs) ys
+  pub after-both : (s : State K T) (xs ys : List (Call K)) → after-all w s (xs ++ ys) ≡ after-all w (after-all w s xs) ys
   after-both s [] ys = refl
   after-both s (x ∷ xs) ys = after-both (after w s x) xs ys
 

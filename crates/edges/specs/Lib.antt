@@ -10,3 +10,6 @@ pub mod Pencil
 pub mod Vectors
 pub mod Cases
 pub mod Named
+pub mod Ways
+pub mod Shortcuts
+pub mod Teeth

@@ -44,6 +44,13 @@ pub data Line (K : Type 0) : Type 0 where
 
 infix 70 _⟶_
 
+-- the calls of a table
+abbrev pub calls-in : {K : Type 0} → List (Line K) → List (Call K)
+calls-in [] = []
+calls-in (c ⟶ a ∷ ls) = c ∷ calls-in ls
+calls-in (reads row work a ∷ ls) = calls-in ls
+calls-in (shows q d ∷ ls) = calls-in ls
+
 -- an answer with the value of its tally
 abbrev pub by-value : Answer Number → Answer ℕ
 by-value Changed = Changed

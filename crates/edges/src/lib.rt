@@ -2,6 +2,7 @@
 ghost use Rattle.rules.specs.Kinds.{kinds-of};
 ghost use Rattle.edges.specs.Cases.{Edge-cases};
 ghost use Rattle.edges.specs.Named.{Named-cases};
+ghost use Rattle.edges.specs.Teeth.{Shortcuts-break};
 ghost use Rattle.edges.specs.Vectors.{Vectors};
 use keys::Key;
 use keys::Route;
@@ -25,4 +26,9 @@ pub fn named_stand()
 // The worked runs come out line by line as they are written.
 pub fn vectors_stand()
     ensures { λ _. ⌜ Vectors ⌝ }
+{}
+
+// Registers that take a shortcut break a law of the rules in a run, or answer otherwise than the rules.
+pub fn shortcuts_break()
+    ensures { λ _. ⌜ Shortcuts-break ⌝ }
 {}

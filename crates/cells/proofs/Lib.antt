@@ -1,3 +1,4 @@
 pub mod Numbers
 pub mod Rosters
 pub mod Shown
+pub mod Submitted

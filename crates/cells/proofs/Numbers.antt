@@ -1,7 +1,7 @@
 -- Rows by number, from 1, with one entry written. Assumes nothing.
 use mathlib.Core.Path.{_≡_, refl, sym, ap, _∙_}
 use mathlib.Core.Bool.{false, cond}
-use mathlib.Core.List.{List, [], _∷_, map}
+use mathlib.Core.List.{List, [], _∷_, _++_, map}
 use Prim.Native.Nat.{ℕ, zero, suc, _<_}
 use native.Mathlib.Omega.{arith}
 use lib.Dec.{eqb}
@@ -41,3 +41,13 @@ map-set-same f (z ∷ zs) (suc i) x y e same = ap (λ q. f z ∷ q) (map-set-sam
 pub mapped-set-same : {X Y : Type 0} (f : X → Y) (xs : List X) (i : ℕ) (x y : X) (j : ℕ) → numbered xs (suc i) ≡ Some x → f x ≡ f y → mapped f (numbered (set xs i y) j) ≡ mapped f (numbered xs j)
 mapped-set-same f xs i x y j e same =
     sym (numbered-map f (set xs i y) j) ∙ ap (λ v. numbered v j) (map-set-same f xs i x y e same) ∙ numbered-map f xs j
+
+-- one entry more
+pub numbered-more : {X : Type 0} (xs : List X) (y : X) (j : ℕ) → numbered (xs ++ (y ∷ [])) j ≡ cond (eqb j (suc (length xs))) (Some y) (numbered xs j)
+numbered-more [] y zero = refl
+numbered-more [] y (suc zero) = refl
+numbered-more [] y (suc (suc j)) = let e : eqb (suc (suc j)) (suc zero) ≡ false = grind arith in rw e
+numbered-more (x ∷ xs) y zero = let e : eqb 0 (suc (suc (length xs))) ≡ false = grind arith in rw e
+numbered-more (x ∷ xs) y (suc zero) = let e : eqb (suc zero) (suc (suc (length xs))) ≡ false = grind arith in rw e
+numbered-more (x ∷ xs) y (suc (suc j)) =
+    numbered-more xs y (suc j) ∙ ap (λ b. cond b (Some y) (numbered xs (suc j))) (sym (eqb-suc (suc j) (suc (length xs))))

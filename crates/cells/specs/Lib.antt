@@ -1,3 +1,4 @@
 pub mod Outcomes
 pub mod Rosters
 pub mod Views
+pub mod Names

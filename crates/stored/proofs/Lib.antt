@@ -1,0 +1,5 @@
+pub mod HighFirst
+pub mod RouteBytes
+pub mod Puts
+pub mod AreaBytes
+pub mod SectionBytes

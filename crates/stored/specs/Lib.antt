@@ -1,0 +1,5 @@
+pub mod Numerals
+pub mod Forms
+pub mod RouteBytes
+pub mod SectionBytes
+pub mod AreaBytes

@@ -1,0 +1,9 @@
+pub mod Laws
+pub mod Faults
+pub mod RowBytes
+pub mod RowsWritten
+pub mod Headers
+pub mod Holds
+pub mod RowsRead
+pub mod RowsSame
+pub mod Files

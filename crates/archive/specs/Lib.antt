@@ -1,0 +1,4 @@
+pub mod Format
+pub mod Layers
+pub mod Checks
+pub mod Theorems

@@ -9,13 +9,14 @@ use lib.ListN.{length, take, drop, length-append, length-drop}
 use borrow.Author.Tests.{eq-eqb, eqb-true, leb-true}
 use Rattle.std.proofs.shelf.Lists.{take-at, drop-at, append-assoc, take-append-drop, drop-drop, length-take-le}
 use Rattle.std.specs.Joined.{joined}
+use Rattle.std.specs.Options.{orOther}
 use Rattle.std.specs.declared.option.Option.the-variants.{Some, None}
 use Rattle.stored.specs.Numerals.{four, value, all-bytes}
 use Rattle.stored.proofs.HighFirst.{four-read, four-written}
 use Rattle.stored.proofs.PairBytes.{all-bytes-take, all-bytes-drop}
 use Rattle.archive.specs.Format.{edition, most-rows, header-fields, later-fields, header, file-length}
 use Rattle.archive.specs.Checks.{Check, first-fault, field-at, rows-told, field-check, field-checks, rows-check, nine-checks, widths-check, room-check, end-check, header-checks}
-use Rattle.archive.proofs.Faults.{first-past, first-after, none-first, none-others, none-front, none-back}
+use Rattle.archive.proofs.Faults.{first-append, first-past, first-after, none-first, none-others, none-front, none-back}
 
 -- four bytes are those of their number
 four-kept : (bytes : List ℕ) → length bytes ≡ 4 → all-bytes bytes ≡ true → four (value bytes) ≡ bytes
@@ -125,3 +126,11 @@ header-known key tally bytes a h =
       long = eqb-true _ _ ends ∙ told;
       headed = known
     }
+
+-- a header of kinds that are not too wide, with room for it: the nine fields decide, and then the end
+pub header-left : (key tally : ℕ) (bytes : List ℕ) → key ≤ 16 → tally ≤ 16 → 36 ≤ length bytes → first-fault (header-checks key tally bytes) ≡ orOther (first-fault (nine-checks key tally bytes)) (first-fault (end-check bytes ∷ []))
+header-left key tally bytes k t l =
+    let widths : (leb key 16 && leb tally 16) ≡ true = grind arith in
+    let enough : leb 36 (length bytes) ≡ true = grind arith in
+    let last : List Check = nine-checks key tally bytes ++ (end-check bytes ∷ []) in
+    first-past (widths-check key tally) (room-check bytes ∷ last) widths ∙ first-past (room-check bytes) last enough ∙ first-append (nine-checks key tally bytes) (end-check bytes ∷ [])

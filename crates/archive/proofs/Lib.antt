@@ -7,3 +7,6 @@ pub mod Holds
 pub mod RowsRead
 pub mod RowsSame
 pub mod Files
+pub mod Fields
+pub mod RowSteps
+pub mod RowParts

@@ -2,6 +2,8 @@
 use super::layer::Layer;
 use keys::Refusal;
 
+mod made;
+
 #[derive(Clone, Copy)]
 pub struct Fault {
     pub refusal: Refusal,

@@ -10,3 +10,4 @@ pub mod Files
 pub mod Fields
 pub mod RowSteps
 pub mod RowParts
+pub mod Reading

@@ -2,3 +2,4 @@ pub mod Format
 pub mod Layers
 pub mod Checks
 pub mod Theorems
+pub mod Opened

@@ -11,3 +11,4 @@ pub mod Fields
 pub mod RowSteps
 pub mod RowParts
 pub mod Reading
+pub mod RowsIn

@@ -24,6 +24,7 @@ use Rattle.requests.specs.Kinds.{kind-number}
 use Rattle.requests.specs.Requests.{kind-of}
 use Rattle.stored.specs.Forms.{KeyForm, TallyForm}
 use Rattle.archive.specs.Format.{request-length, answer-length, zeros, key-fields, tally-field, code-of, request-row, answer-row}
+use Rattle.archive.specs.RowsIn.{answer-in, request-in}
 use Rattle.archive.proofs.Laws.{KeyLaws, TallyLaws}
 use Rattle.archive.proofs.RowBytes.{request-row-long, answer-row-long}
 
@@ -41,18 +42,8 @@ row-path a b p q r = λ i. record {
   answered = isProp→PathP (λ j. fits (q j) (r j) ≡ true) (λ j. Bool-set (fits (q j) (r j)) true) (a .answered) (b .answered) i
 }
 
--- the answer of a code and a tally field
-abbrev answer-in : {T : Type 0} → TallyForm T → ℕ → List ℕ → Option (Answer T)
-answer-in tallies code bytes =
-    cond (eqb code 0) None (cond (eqb code 1) (Some Changed) (cond (eqb code 2) (Some Unchanged) (cond (eqb code 3) (Some Present) (cond (eqb code 4) (Some Absent) (Some (Counted (tallies .read bytes)))))))
-
--- the request of a kind's number and key fields
-abbrev request-in : {K : Type 0} → KeyForm K → ℕ → List ℕ → Option (Request K)
-request-in keys number bytes =
-    cond (eqb number 1) (mapped Enter (keys .read (take (keys .size) bytes))) (cond (eqb number 2) (mapped Withdraw (keys .read (take (keys .size) bytes))) (cond (eqb number 3) (mapped LookUp (keys .read (take (keys .size) bytes))) (mapped (λ both. Count (both .0) (both .1)) (zipped (keys .read (take (keys .size) bytes)) (keys .read (drop (keys .size) bytes))))))
-
 module _ {T : Type 0} (tallies : TallyForm T) (laws : TallyLaws tallies) where
-  answer-back : (a : Option (Answer T)) → answer-in tallies (code-of a) (tally-field tallies a) ≡ a
+  pub answer-back : (a : Option (Answer T)) → answer-in tallies (code-of a) (tally-field tallies a) ≡ a
   answer-back None = refl
   answer-back (Some Changed) = refl
   answer-back (Some Unchanged) = refl
@@ -67,7 +58,7 @@ module _ {K : Type 0} (keys : KeyForm K) (laws : KeyLaws keys) where
   front : (k : K) (rest : List ℕ) → keys .read (take (keys .size) (keys .written k ++ rest)) ≡ Some k
   front k rest = ap (keys .read) (take-at (keys .written k) rest (keys .size) (laws .long k)) ∙ laws .reread k
 
-  request-back : (q : Request K) → request-in keys (kind-number (kind-of q)) (key-fields keys q) ≡ Some q
+  pub request-back : (q : Request K) → request-in keys (kind-number (kind-of q)) (key-fields keys q) ≡ Some q
   request-back (Enter k) = ap (mapped Enter) (front k (zeros (keys .size)))
   request-back (Withdraw k) = ap (mapped Withdraw) (front k (zeros (keys .size)))
   request-back (LookUp k) = ap (mapped LookUp) (front k (zeros (keys .size)))

@@ -1,6 +1,7 @@
 // The archive: a file of requests and their answers, checked, read and handed out row by row.
 mod answer_rows;
 mod checking;
+mod decoding;
 mod fault;
 mod header;
 mod layer;

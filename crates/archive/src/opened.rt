@@ -3,7 +3,7 @@ use std::marker::PhantomData;
 
 mod calls;
 
-#[derive(Clone, Copy)]
+#[derive(Drop)]
 pub struct Archive<'a, K, T> {
     bytes: &'a [u8],
     count: usize,

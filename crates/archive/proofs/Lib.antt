@@ -12,3 +12,4 @@ pub mod RowSteps
 pub mod RowParts
 pub mod Reading
 pub mod RowsIn
+pub mod Handed

@@ -11,7 +11,7 @@ use stored::from_four;
 
 pub const HEADER_LENGTH: usize = 36;
 const EDITION: usize = 1;
-const MOST_ROWS: usize = 1024;
+pub const MOST_ROWS: usize = 1024;
 
 // The header field at an offset.
 pub fn field(bytes: &[u8], offset: usize) -> usize

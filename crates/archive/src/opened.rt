@@ -2,6 +2,7 @@
 use std::marker::PhantomData;
 
 mod calls;
+mod rows;
 
 #[derive(Drop)]
 pub struct Archive<'a, K, T> {

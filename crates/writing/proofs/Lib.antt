@@ -1,0 +1,2 @@
+pub mod RowsPut
+pub mod HeaderPut

@@ -1,2 +1,4 @@
 pub mod RowsPut
 pub mod HeaderPut
+pub mod RunsPut
+pub mod FilePut

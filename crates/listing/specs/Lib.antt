@@ -1,0 +1,4 @@
+pub mod KeyTexts
+pub mod TallyTexts
+pub mod RowTexts
+pub mod FaultTexts

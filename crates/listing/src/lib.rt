@@ -1,0 +1,15 @@
+// Archives listed for people: keys, tallies, rows and faults as text.
+mod faults;
+mod keys_text;
+mod rows;
+mod tallies_text;
+
+pub use faults::fault_line;
+pub use keys_text::PrintedArea;
+pub use keys_text::PrintedKey;
+pub use keys_text::PrintedRoute;
+pub use keys_text::PrintedSection;
+pub use tallies_text::PrintedClasses;
+pub use tallies_text::PrintedNumber;
+pub use tallies_text::PrintedPair;
+pub use tallies_text::PrintedTally;

@@ -9,6 +9,7 @@ pub use keys_text::PrintedArea;
 pub use keys_text::PrintedKey;
 pub use keys_text::PrintedRoute;
 pub use keys_text::PrintedSection;
+pub use rows::list_rows;
 pub use tallies_text::PrintedClasses;
 pub use tallies_text::PrintedNumber;
 pub use tallies_text::PrintedPair;

@@ -3,12 +3,14 @@ ghost use mathlib.Core.Path.{_≡_};
 ghost use mathlib.Core.List.{List, _++_};
 ghost use Rattle.std.specs.Of.String.{string-bytes};
 ghost use Rattle.std.specs.Vec.{made};
+ghost use Rattle.std.specs.declared.result.Result.the-variants.{Ok};
 ghost use Rattle.requests.specs.declared.row.Row.{Row};
 ghost use Rattle.archive.specs.Opened.{Opened};
 ghost use Rattle.listing.specs.RowTexts.{request-text, answer-text, row-line, last-line, listing-text};
 use super::keys_text::PrintedKey;
 use super::tallies_text::PrintedTally;
 use archive::Archive;
+use keys::Refusal;
 use requests::Answer;
 use requests::Request;
 use requests::Row;
@@ -69,4 +71,29 @@ fn last_line(heap: Global, count: usize) -> Result<String, AllocError>
     ensures { λ r. ⌜ made r (λ s. string-bytes s ≡ last-line count) ⌝ }
 {
     format!(heap, "rows {count}\n")
+}
+
+// The line of a row that is given.
+fn given_line<K: PrintedKey, T: PrintedTally<K>>(heap: Global, number: usize, row: Result<Row<K, T>, Refusal>) -> Result<String, AllocError>
+    ensures { λ r. ⌜ ((w : Row K T) → row ≡ Ok w → made r (λ s. string-bytes s ≡ row-line (K·PrintedKey .text) (T·PrintedTally .text) number w)) ⌝ }
+{
+    match row {
+        Ok(row) => row_line(heap, number, &row),
+        Err(_) => Ok(String::new(heap)),
+    }
+}
+
+// All rows of an accepted archive, one to a line, and their number.
+pub fn list_rows<K: PrintedKey, T: PrintedTally<K>>(heap: Global, archive: &Archive<K, T>) -> Result<String, AllocError>
+    ensures { λ r. ⌜ ((rows : List (Row K T)) → Opened (K·StoredKey .form) (T·StoredTally .form) (now (archive .entry)) rows → made r (λ s. string-bytes s ≡ listing-text (K·PrintedKey .text) (T·PrintedTally .text) rows)) ⌝ }
+{
+    let mut written = String::new(heap);
+    let count = archive.count();
+    for i in 0..count {
+        let line = given_line(heap, i + 1, archive.read(i + 1))?;
+        written.push_str(line.as_str())?;
+    }
+    let last = last_line(heap, count)?;
+    written.push_str(last.as_str())?;
+    Ok(written)
 }

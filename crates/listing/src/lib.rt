@@ -3,8 +3,9 @@ mod faults;
 mod keys_text;
 mod rows;
 mod tallies_text;
+mod wanted;
 
-pub use faults::fault_line;
+pub use faults::fault_text;
 pub use keys_text::PrintedArea;
 pub use keys_text::PrintedKey;
 pub use keys_text::PrintedRoute;

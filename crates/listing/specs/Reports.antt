@@ -9,7 +9,7 @@ use Rattle.requests.specs.declared.row.Row.{Row}
 use Rattle.stored.specs.Forms.{KeyForm, TallyForm, width-of}
 use Rattle.archive.specs.declared.fault.Fault.{Fault}
 use Rattle.archive.specs.Checks.{fault-of}
-use Rattle.archive.specs.Theorems.{FileOf}
+use Rattle.archive.specs.Theorems.{FileOf, Written-is-read, Read-is-written}
 use Rattle.listing.specs.RowTexts.{listing-text}
 use Rattle.listing.specs.FaultTexts.{fault-text}
 
@@ -19,3 +19,6 @@ pub record Printing {X E K T : Type 0} (spelled : X → List ℕ) (keys : KeyFor
   pub rows : (rs : List (Row K T)) → FileOf keys tallies bytes rs → made r (λ s. spelled s ≡ listing-text key tally rs)
   -- else the fault
   pub fault : (f : Fault) → fault-of keys tallies bytes ≡ Some f → made r (λ s. spelled s ≡ fault-text (width-of (keys .size)) (width-of (tallies .size)) bytes f)
+  -- what was written is read back, and what is read is written again, byte for byte
+  pub written : Written-is-read keys tallies
+  pub read : Read-is-written keys tallies

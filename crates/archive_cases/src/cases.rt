@@ -6,6 +6,7 @@ use std::io;
 use stored::StoredKey;
 use stored::StoredTally;
 use writing::write;
+use writing::write_again;
 
 const ROOM: usize = 512;
 
@@ -24,6 +25,21 @@ fn told<K: StoredKey, T: StoredTally<K>>(rt: &LibcRuntime, name: &str, bytes: &[
             println!(rt, "{name}: fault {number} {layer} row {row} offset {offset}")
         }
     }
+}
+
+// Whether the rows of the file, written again, are that file.
+fn again<K: StoredKey, T: StoredTally<K>>(rt: &LibcRuntime, bytes: &[u8]) -> io::Result<()> {
+    let mut copy = [0u8; ROOM];
+    let Ok(archive) = Archive::<K, T>::open(bytes) else {
+        return println!(rt, "not accepted");
+    };
+    let Ok(length) = write_again::<K, T>(&archive, &mut copy) else {
+        return println!(rt, "not written again");
+    };
+    if length > ROOM || &copy[0..length] != bytes {
+        return println!(rt, "written again: another file");
+    }
+    println!(rt, "written again: the same file")
 }
 
 // The file with one byte changed, and then as it was.
@@ -45,6 +61,7 @@ fn lengths<K: StoredKey, T: StoredTally<K>>(rt: &LibcRuntime, buffer: &[u8], len
         return println!(rt, "no file");
     }
     told::<K, T>(rt, "whole", &buffer[0..length])?;
+    again::<K, T>(rt, &buffer[0..length])?;
     told::<K, T>(rt, "nothing", &buffer[0..0])?;
     told::<K, T>(rt, "35 bytes", &buffer[0..35])?;
     told::<K, T>(rt, "one byte less", &buffer[0..length - 1])?;

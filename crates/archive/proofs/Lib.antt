@@ -1,0 +1,15 @@
+pub mod Laws
+pub mod Faults
+pub mod RowBytes
+pub mod RowsWritten
+pub mod Headers
+pub mod Holds
+pub mod RowsRead
+pub mod RowsSame
+pub mod Files
+pub mod Fields
+pub mod RowSteps
+pub mod RowParts
+pub mod Reading
+pub mod RowsIn
+pub mod Handed

@@ -1,0 +1,6 @@
+pub mod KeyTexts
+pub mod TallyTexts
+pub mod RowTexts
+pub mod FaultTexts
+pub mod Reports
+pub mod Kinds

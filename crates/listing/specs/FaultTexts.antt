@@ -1,7 +1,7 @@
 -- A fault as people read it.
 use mathlib.Core.Bool.{cond}
 use mathlib.Core.List.{List, _++_}
-use Prim.Native.Nat.{ℕ, _-_, _%_}
+use Prim.Native.Nat.{ℕ, _+_, _-_, _%_}
 use lib.Chars.{codes}
 use lib.Dec.{eqb, ltb}
 use lib.ListN.{length, getD}
@@ -22,9 +22,13 @@ abbrev pub fault-line : Fault → List ℕ
 fault-line f =
     codes "fault " ++ (decimal (refusal-number (f .refusal)) ++ (codes " " ++ (layer-word (f .layer) ++ (codes " row " ++ (decimal (f .row) ++ (codes " offset " ++ (decimal (f .offset) ++ codes "\n")))))))
 
+-- the number in the four bytes at an offset, 0 where there are not so many
+abbrev pub told-at : ℕ → List ℕ → ℕ
+told-at offset bytes = cond (ltb (length bytes) (offset + 4)) 0 (field-at bytes offset)
+
 -- where the answer rows start, as a header tells it
 abbrev pub told-start : List ℕ → ℕ
-told-start bytes = cond (ltb (length bytes) 32) 0 (field-at bytes 28)
+told-start bytes = told-at 28 bytes
 
 -- where a field starts: in the header counted from the front of the file, in a row from the front of the row
 abbrev pub place : ℕ → ℕ → List ℕ → Layer → ℕ → ℕ
@@ -73,14 +77,15 @@ wanted-text Code = codes "a code that answers the request, or 0"
 wanted-text ThreeZeros = codes "three zero bytes"
 wanted-text NoTally = codes "zero bytes, as there is no tally"
 
--- what stands at an offset
-abbrev pub found : List ℕ → ℕ → List ℕ
-found bytes offset = cond (ltb offset (length bytes)) (codes "byte " ++ decimal (getD bytes offset 0)) (codes "the end of the file")
+-- what stands at an offset: the number in a header field, else the byte
+abbrev pub found : Refusal → List ℕ → ℕ → List ℕ
+found refusal bytes offset =
+    cond (eqb (refusal-number refusal) 12) (codes "the number " ++ decimal (told-at offset bytes)) (cond (ltb offset (length bytes)) (codes "byte " ++ decimal (getD bytes offset 0)) (codes "the end of the file"))
 
 -- the sentence under the fault
 abbrev pub sentence : ℕ → ℕ → List ℕ → Fault → List ℕ
 sentence key tally bytes f =
-    codes "expected " ++ (wanted-text (wanted (f .refusal) (place key tally bytes (f .layer) (f .offset))) ++ (codes " at byte " ++ (decimal (f .offset) ++ (codes ", found " ++ (found bytes (f .offset) ++ codes "\n")))))
+    codes "expected " ++ (wanted-text (wanted (f .refusal) (place key tally bytes (f .layer) (f .offset))) ++ (codes " at byte " ++ (decimal (f .offset) ++ (codes ", found " ++ (found (f .refusal) bytes (f .offset) ++ codes "\n")))))
 
 abbrev pub fault-text : ℕ → ℕ → List ℕ → Fault → List ℕ
 fault-text key tally bytes f = fault-line f ++ sentence key tally bytes f

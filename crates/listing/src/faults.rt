@@ -3,9 +3,10 @@ ghost use mathlib.Core.Path.{_≡_};
 ghost use Prim.Native.Nat.{_≤_};
 ghost use Rattle.std.specs.Of.String.{string-bytes};
 ghost use Rattle.std.specs.Vec.{made};
-ghost use Rattle.listing.specs.FaultTexts.{fault-line, told-start, place, found, sentence, fault-text};
+ghost use Rattle.listing.specs.FaultTexts.{fault-line, told-at, place, found, sentence, fault-text};
 use archive::Fault;
 use archive::Layer;
+use keys::Refusal;
 use super::wanted::Wanted;
 use std::alloc::AllocError;
 use std::alloc::Global;
@@ -22,20 +23,27 @@ fn fault_line(heap: Global, fault: Fault) -> Result<String, AllocError>
     format!(heap, "fault {number} {layer} row {row} offset {offset}\n")
 }
 
-// Where the answer rows start, as the header tells it.
-fn answers_start(bytes: &[u8]) -> usize
-    ensures { λ r. ⌜ r ≡ told-start (now (bytes .entry)) ⌝ }
+// The number in the four bytes at an offset, 0 where there are not so many.
+fn number_at(bytes: &[u8], offset: usize) -> usize
+    ensures { λ r. ⌜ r ≡ told-at offset (now (bytes .entry)) ⌝ }
 {
-    if bytes.len() < 32 {
+    if bytes.len() < 4 {
         return 0;
     }
-    from_four(bytes[28], bytes[29], bytes[30], bytes[31]) as usize
+    if offset > bytes.len() - 4 {
+        return 0;
+    }
+    from_four(bytes[offset], bytes[offset + 1], bytes[offset + 2], bytes[offset + 3]) as usize
 }
 
-// What stands at an offset.
-fn found(heap: Global, bytes: &[u8], offset: usize) -> Result<String, AllocError>
-    ensures { λ r. ⌜ made r (λ s. string-bytes s ≡ found (now (bytes .entry)) offset) ⌝ }
+// What stands at an offset: the number in a header field, else the byte.
+fn found(heap: Global, refusal: Refusal, bytes: &[u8], offset: usize) -> Result<String, AllocError>
+    ensures { λ r. ⌜ made r (λ s. string-bytes s ≡ found refusal (now (bytes .entry)) offset) ⌝ }
 {
+    if refusal.number() == 12 {
+        let number = number_at(bytes, offset);
+        return format!(heap, "the number {number}");
+    }
     if offset < bytes.len() {
         let byte = bytes[offset];
         return format!(heap, "byte {byte}");
@@ -51,7 +59,7 @@ fn place(key: usize, tally: usize, bytes: &[u8], layer: Layer, offset: usize) ->
     match layer {
         Layer::Header => offset,
         Layer::Requests => offset.saturating_sub(36) % (4 + 2 * key),
-        Layer::Answers => offset.saturating_sub(answers_start(bytes)) % (4 + tally),
+        Layer::Answers => offset.saturating_sub(number_at(bytes, 28)) % (4 + tally),
     }
 }
 
@@ -63,7 +71,7 @@ fn sentence(heap: Global, key: usize, tally: usize, bytes: &[u8], fault: Fault) 
     let at = place(key, tally, bytes, fault.layer, fault.offset);
     let wanted = Wanted::of(fault.refusal, at).text();
     let offset = fault.offset;
-    let stands = found(heap, bytes, offset)?;
+    let stands = found(heap, fault.refusal, bytes, offset)?;
     format!(heap, "expected {wanted} at byte {offset}, found {stands}\n")
 }
 

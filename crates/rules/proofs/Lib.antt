@@ -52,3 +52,5 @@ pub mod Measures
 pub mod Turns
 pub mod Service
 pub mod Registers
+pub mod SoundQueues
+pub mod SoundFrames

@@ -54,3 +54,4 @@ pub mod Service
 pub mod Registers
 pub mod SoundQueues
 pub mod SoundFrames
+pub mod SoundLeaves

@@ -74,3 +74,94 @@ module _ {K T : Type 0} where
       held = λ p x st. alike-held x (h .held p x (alike-stood p x st));
       hands = λ n t e. let v = h .hands n t (sym (a .uncollected n) ∙ e) in (v .0, ap (λ f. f t) (a .asker) ∙ v .1, v .2, alike-given t (v .3))
     }
+
+  alike-same : (s : State K T) → Alike s s
+  alike-same s = record { requests = refl; asker = refl; queue = refl; uncollected = λ n. refl; made = λ f. refl; slots = λ p side f e. e }
+
+  alike-rows : (s s′ : State K T) → s′ .requests ≡ s .requests → s′ .asker ≡ s .asker → s′ .queue ≡ s .queue → ((n : ℕ) → s′ .desk n .uncollected ≡ s .desk n .uncollected)
+      → s′ .slot ≡ s .slot → s′ .place ≡ s .place → Alike s s′
+  alike-rows s s′ requests asker queue uncollected slot place =
+      record { requests = requests; asker = asker; queue = queue; uncollected = uncollected; made = λ f. ap (λ v. isSome (v f)) place; slots = slots }
+    where
+      slots : (p : ℕ) (side : Side) (f : ℕ) → slot-at s′ p side ≡ leads f → slot-at s p side ≡ leads f
+      slots zero on-left f e = sym slot ∙ e
+      slots zero on-right f e = e
+      slots (suc p) side f e = ap (λ v. elim (v (suc p)) as (λ _. Slot K) [ None ↦ empty | Some x ↦ slot-on x side ]) (sym place) ∙ e
+
+  pub alike-answer : (s : State K T) (t : ℕ) (v : Answer T) → Alike s (with-answer s t v)
+  alike-answer s t v = alike-rows s (with-answer s t v) refl refl refl (λ n. refl) refl refl
+
+  pub alike-counted : (s : State K T) (t : ℕ) (v : T) → Alike s (with-counted s t v)
+  alike-counted s t v = alike-rows s (with-counted s t v) refl refl refl (λ n. refl) refl refl
+
+  pub alike-decision : (s : State K T) (t : ℕ) (d : Bool) → Alike s (with-decision s t d)
+  alike-decision s t d = alike-rows s (with-decision s t d) refl refl refl (λ n. refl) refl refl
+
+  pub alike-note : (s : State K T) (n : ℕ) (x : Note) → Alike s (with-note s n x)
+  alike-note s n x =
+      alike-rows s (with-note s n x) refl refl refl
+      (λ i. put-cases (s .desk) n (record { note = x; uncollected = s .desk n .uncollected }) i (λ d. d .uncollected ≡ s .desk i .uncollected)
+          (λ e. ap (λ j. s .desk j .uncollected) (sym e)) (λ _. refl))
+      refl refl
+
+  -- a place written anew whose slots lead to no other places
+  pub alike-place : (s : State K T) (q : ℕ) (f f′ : Place K T) → s .place q ≡ Some f → ((side : Side) (g : ℕ) → slot-on f′ side ≡ leads g → slot-on f side ≡ leads g)
+      → Alike s (with-place s q f′)
+  alike-place s q f f′ is fewer = record {
+    requests = refl; asker = refl; queue = refl; uncollected = λ n. refl;
+    made = λ i. put-cases (s .place) q (Some f′) i (λ o. isSome o ≡ is-made s i) (λ e. sym (ap isSome (ap (s .place) e ∙ is))) (λ _. refl);
+    slots = slots
+  }
+    where
+      slots : (p : ℕ) (side : Side) (g : ℕ) → slot-at (with-place s q f′) p side ≡ leads g → slot-at s p side ≡ leads g
+      slots zero on-left g e = e
+      slots zero on-right g e = e
+      slots (suc p) side g e =
+          put-cases (s .place) q (Some f′) (suc p) (λ o. elim o as (λ _. Slot K) [ None ↦ empty | Some x ↦ slot-on x side ] ≡ leads g → slot-at s (suc p) side ≡ leads g)
+          (λ here u. ap (λ o. elim o as (λ _. Slot K) [ None ↦ empty | Some x ↦ slot-on x side ]) (ap (s .place) here ∙ is) ∙ fewer side g u)
+          (λ _ u. u) e
+
+  alike-gate : (s : State K T) (y : Slot K) → ((f : ℕ) → y ≡ leads f → ⊥) → Alike s (with-gate s y)
+  alike-gate s y nowhere = record { requests = refl; asker = refl; queue = refl; uncollected = λ n. refl; made = λ f. refl; slots = slots }
+    where
+      slots : (p : ℕ) (side : Side) (f : ℕ) → slot-at (with-gate s y) p side ≡ leads f → slot-at s p side ≡ leads f
+      slots zero on-left f e = absurd (nowhere f e)
+      slots zero on-right f e = e
+      slots (suc p) side f e = e
+
+  -- a slot written on one side
+  pub slot-written : (f : Place K T) (written : Side) (y : Slot K) (side : Side) (g : ℕ) → slot-on (with-slot-on f written y) side ≡ leads g
+      → ((side ≡ written) × (y ≡ leads g)) ⊎ (slot-on f side ≡ leads g)
+  slot-written f on-left y on-left g e = inl (refl, e)
+  slot-written f on-left y on-right g e = inr e
+  slot-written f on-right y on-left g e = inr e
+  slot-written f on-right y on-right g e = inl (refl, e)
+
+  slot-tally : (f : Place K T) (v : T) (side : Side) (g : ℕ) → slot-on (with-tally f v) side ≡ leads g → slot-on f side ≡ leads g
+  slot-tally f v on-left g e = e
+  slot-tally f v on-right g e = e
+
+  -- a slot written that leads nowhere
+  pub alike-slot : (w : Kinds K T) (s : State K T) (p : ℕ) (k : K) (y : Slot K) → ((f : ℕ) → y ≡ leads f → ⊥) → Alike s (with-slot-for w s p k y)
+  alike-slot w s zero k y nowhere = alike-gate s y nowhere
+  alike-slot w s (suc p) k y nowhere = go (s .place (suc p)) refl
+    where
+      go : (o : Option (Place K T)) → s .place (suc p) ≡ o → Alike s (elim o [ None ↦ s | Some f ↦ with-place s (suc p) (with-slot-on f (side-of w f k) y) ])
+      go None e = alike-same s
+      go (Some f) e =
+          alike-place s (suc p) f (with-slot-on f (side-of w f k) y) e
+          (λ side g u. ⊎-elim (λ v. absurd (nowhere g (v .1))) (λ v. v) (slot-written f (side-of w f k) y side g u))
+
+  pub alike-joined : (w : Kinds K T) (s : State K T) (p : ℕ) (v : T) → Alike s (with-joined w s p v)
+  alike-joined w s p v = go (s .place p) refl
+    where
+      go : (o : Option (Place K T)) → s .place p ≡ o → Alike s (elim o [ None ↦ s | Some f ↦ with-place s p (with-tally f (w .joined (f .tally) v)) ])
+      go None e = alike-same s
+      go (Some f) e = alike-place s p f (with-tally f (w .joined (f .tally) v)) e (slot-tally f (w .joined (f .tally) v))
+
+-- empty slots and keys lead nowhere
+pub empty-leads : {K : Type 0} (f : ℕ) → _≡_ {A = Slot K} empty (leads f) → ⊥
+empty-leads f e = let z : _≡_ {A = ℕ} 0 1 = cc in omega arith
+
+pub holds-leads : {K : Type 0} (k : K) (f : ℕ) → holds k ≡ leads f → ⊥
+holds-leads k f e = let z : _≡_ {A = ℕ} 0 1 = cc in omega arith

@@ -55,3 +55,4 @@ pub mod Registers
 pub mod SoundQueues
 pub mod SoundFrames
 pub mod SoundLeaves
+pub mod SoundJoins

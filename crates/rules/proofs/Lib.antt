@@ -56,3 +56,4 @@ pub mod SoundQueues
 pub mod SoundFrames
 pub mod SoundLeaves
 pub mod SoundJoins
+pub mod SoundMakes

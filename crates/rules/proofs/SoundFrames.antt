@@ -129,6 +129,15 @@ module _ {K T : Type 0} where
       slots zero on-right f e = e
       slots (suc p) side f e = e
 
+  -- only the gate and places that are made have slots that lead anywhere
+  pub leads-made : (s : State K T) (p : ℕ) (side : Side) (f : ℕ) → slot-at s p side ≡ leads f → (p ≡ 0) ⊎ (is-made s p ≡ true)
+  leads-made s zero side f e = inl refl
+  leads-made s (suc p) side f e = go (s .place (suc p)) e
+    where
+      go : (o : Option (Place K T)) → elim o as (λ _. Slot K) [ None ↦ empty | Some x ↦ slot-on x side ] ≡ leads f → (suc p ≡ 0) ⊎ (isSome o ≡ true)
+      go None u = let z : _≡_ {A = ℕ} 0 1 = cc in absurd (omega arith)
+      go (Some x) u = inr refl
+
   -- a slot written on one side
   pub slot-written : (f : Place K T) (written : Side) (y : Slot K) (side : Side) (g : ℕ) → slot-on (with-slot-on f written y) side ≡ leads g
       → ((side ≡ written) × (y ≡ leads g)) ⊎ (slot-on f side ≡ leads g)

@@ -57,3 +57,4 @@ pub mod SoundFrames
 pub mod SoundLeaves
 pub mod SoundJoins
 pub mod SoundMakes
+pub mod SoundMoves

@@ -22,7 +22,7 @@ use Rattle.rules.proofs.SoundQueues.{put-cases, in-stands, head-stands, rises-
 use Rattle.rules.proofs.SoundFrames.{Alike, alike-stood, alike-in, alike-given, alike-none, alike-held, sound-alike}
 
 module _ {K T : Type 0} where
-  -- request t has left the queue of p, and waits nowhere in this mode
+  -- request t has left the queue of p
   pub record Mover (s : State K T) (last above : ℕ → ℕ) (p t : ℕ) : Type 0 where
     pub sounds : Sounds-by s last above
     pub low : t ≤ last p
@@ -51,7 +51,15 @@ module _ {K T : Type 0} where
     pub elsewhere : (q : ℕ) (m : Mode) → stands-in (e .number) m (s .queue q) ≡ true → (m ≡ e .mode → ⊥) × (e .mode ≡ Between → ⊥) × (m ≡ Between → ⊥)
     pub from-gate : p ≡ 0 → e .mode ≡ Between
     pub plain : (r : Request K) → numbered (s .requests) (e .number) ≡ Some r → isSome (sought r) ≡ true → e .mode ≡ Between
-    pub from-place : (p ≡ 0) ⊎ (is-made s p ≡ true)
+
+  pub freed-alike : {s s′ : State K T} {last above : ℕ → ℕ} {p : ℕ} {e : Waiter} → Alike s s′ → Freed s last above p e → Freed s′ last above p e
+  freed-alike {p = p} {e = e} a v = record {
+    mover = mover-alike a (v .mover);
+    under = λ side f is. v .under side f (a .slots p side f is);
+    elsewhere = λ q m st. v .elsewhere q m (alike-in a q (e .number) m st);
+    from-gate = v .from-gate;
+    plain = λ r num. v .plain r (ap (λ rs. numbered rs (e .number)) (sym (a .requests)) ∙ num)
+  }
 
   module _ {s : State K T} {last above : ℕ → ℕ} (h : Sounds-by s last above) (p : ℕ) where
     -- the state without the head
@@ -134,6 +142,5 @@ module _ {K T : Type 0} where
                 , (λ own. gone i m st (h .between p i (e .number) m (subst (λ v. stands-in (e .number) v (s .queue p) ≡ true) own was-in) (stood-in i (e .number) m st) ∙ sym own))
                 , (λ is. gone i m st (is ∙ sym (h .between i p (e .number) (e .mode) (subst (λ v. stands-in (e .number) v (s .queue i) ≡ true) is (stood-in i (e .number) m st)) was-in))));
             from-gate = λ z. h .at-gate (e .number) (e .mode) (ap (λ i. stands-in (e .number) (e .mode) (s .queue i)) (sym z) ∙ was-in);
-            plain = λ r num no. h .plain p (e .number) (e .mode) r was-in num no;
-            from-place = h .at-places p (e .number) head-stood
+            plain = λ r num no. h .plain p (e .number) (e .mode) r was-in num no
           }

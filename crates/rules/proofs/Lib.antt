@@ -58,3 +58,4 @@ pub mod SoundLeaves
 pub mod SoundJoins
 pub mod SoundMakes
 pub mod SoundMoves
+pub mod SoundSubmits

@@ -59,3 +59,4 @@ pub mod SoundJoins
 pub mod SoundMakes
 pub mod SoundMoves
 pub mod SoundSubmits
+pub mod SoundCalls

@@ -60,3 +60,5 @@ pub mod SoundMakes
 pub mod SoundMoves
 pub mod SoundSubmits
 pub mod SoundCalls
+pub mod SoundUses
+pub mod SoundRows

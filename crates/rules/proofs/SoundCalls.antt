@@ -1,9 +1,9 @@
 -- Every register is sound: the opening is, and every call keeps it, whatever the kinds of key and tally. Rests on SoundMoves and SoundSubmits.
-use mathlib.Core.Path.{_≡_, refl, sym, ap, subst, _∙_}
+use mathlib.Core.Path.{_≡_, refl, sym, ap, _∙_}
 use mathlib.Core.Bool.{Bool, true, false, cond, not, true≢false}
 use mathlib.Core.List.{List, [], _∷_}
-use mathlib.Core.Logic.{_⊎_, inl, inr, ⊎-elim}
-use Prim.Native.Nat.{ℕ, zero, suc, _≤_, _<_}
+use mathlib.Core.Logic.{∥∥₁-map}
+use Prim.Native.Nat.{ℕ, zero, suc}
 use native.Mathlib.Omega.{arith}
 use lib.Dec.{eqb, leb}
 use Rattle.std.specs.Options.{isSome}
@@ -11,7 +11,7 @@ use Rattle.std.specs.declared.option.Option.{Option}
 use Rattle.std.specs.declared.option.Option.the-variants.{Some, None}
 use Rattle.std.specs.declared.result.Result.{Result}
 use Rattle.std.specs.declared.result.Result.the-variants.{Ok, Err}
-use Rattle.std.proofs.shelf.Tests.{eqb-true, not-false}
+use Rattle.std.proofs.shelf.Tests.{eqb-true}
 use Rattle.keys.specs.declared.refusal.Refusal.{Refusal}
 use Rattle.keys.specs.declared.refusal.Refusal.the-variants as no
 use Rattle.requests.specs.Stations.{is-station}
@@ -22,12 +22,12 @@ use Rattle.rules.specs.declared.note.Note.{Note}
 use Rattle.rules.specs.declared.note.Note.the-variants as note
 use Rattle.rules.specs.Kinds.{Kinds, same}
 use Rattle.rules.specs.States.{State, Slot, Waiter, empty, holds, leads, opening}
-use Rattle.rules.specs.Queues.{given, numbered, finished, final-answer, bears}
-use Rattle.rules.specs.Changes.{with-note, with-decision, with-request, with-waiter, with-uncollected}
+use Rattle.rules.specs.Queues.{given, numbered, finished, bears}
+use Rattle.rules.specs.Changes.{with-note, with-decision, with-uncollected}
 use Rattle.rules.specs.Moves.{Side, on-left, on-right, slot-for, moved}
 use Rattle.rules.specs.Carries.{sought, last-word, late, carried, saw, walk, look, at-head, at-gate, read-slot}
-use Rattle.rules.specs.Calls.{Call, submit, follow, carry, collect, check, state-by, submit-after, submit-refusal, follow-after, follow-refusal, followed-head, followed-place, carry-refusal, collect-by, collect-answer, after, after-all, run}
-use Rattle.rules.specs.Sound.{slot-at, Sounds-by, Sounds, Sound}
+use Rattle.rules.specs.Calls.{Call, submit, follow, carry, collect, check, state-by, submit-after, follow-refusal, followed-head, followed-place, carry-refusal, collect-by, after, after-all, run}
+use Rattle.rules.specs.Sound.{slot-at, Sounds, Sound}
 use Rattle.rules.proofs.Runs.{joined-by}
 use Rattle.rules.proofs.SoundFrames.{none-there, empty-leads, alike-note, alike-decision}
 use Rattle.rules.proofs.SoundMoves.{sounds-of, sounds-alike, sound-moved}
@@ -160,3 +160,10 @@ module _ {K T : Type 0} (w : Kinds K T) where
   -- and so every state that calls lead to
   pub sound-run : (cells : ℕ) (cs : List (Call K)) → Sounds (run w cells cs)
   sound-run cells cs = sound-after-all cs (sound-opening cells)
+
+  -- the same without the numbers that make it so, for a register that holds the fact
+  pub opens-sound : (cells : ℕ) → Sound (opening w cells)
+  opens-sound cells = ∣ sound-opening cells ∣₁
+
+  pub stays-sound : {s : State K T} → Sound s → (c : Call K) → Sound (after w s c)
+  stays-sound h c = ∥∥₁-map h (λ g. sound-after g c)

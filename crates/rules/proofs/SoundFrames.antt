@@ -1,11 +1,9 @@
 -- Changes that soundness does not see: who waits, who hangs where and who is held are as before, or slots lead to fewer places. Rests on SoundQueues.
 use mathlib.Core.Path.{_≡_, refl, sym, ap, subst, _∙_}
-use mathlib.Core.Bool.{Bool, true, false, cond, true≢false}
-use mathlib.Core.List.{List, [], _∷_, _++_}
+use mathlib.Core.Bool.{Bool, true, false, true≢false}
 use mathlib.Core.Logic.{_⊎_, inl, inr, ⊎-elim}
-use Prim.Native.Nat.{ℕ, zero, suc, _≤_, _<_}
+use Prim.Native.Nat.{ℕ, zero, suc, _≤_}
 use native.Mathlib.Omega.{arith}
-use lib.Dec.{eqb}
 use lib.ListN.{length}
 use Rattle.std.specs.Options.{isSome}
 use Rattle.std.specs.declared.option.Option.{Option}
@@ -16,9 +14,9 @@ use Rattle.rules.specs.declared.mode.Mode.{Mode}
 use Rattle.rules.specs.declared.mode.Mode.the-variants.{Between}
 use Rattle.rules.specs.declared.note.Note.{Note}
 use Rattle.rules.specs.Kinds.{Kinds}
-use Rattle.rules.specs.States.{State, Slot, Place, Waiter, Desk, empty, holds, leads}
+use Rattle.rules.specs.States.{State, Slot, Place, empty, holds, leads}
 use Rattle.rules.specs.Queues.{given, numbered, stands}
-use Rattle.rules.specs.Changes.{put, with-answer, with-counted, with-decision, with-gate, with-place, with-note}
+use Rattle.rules.specs.Changes.{with-answer, with-counted, with-decision, with-gate, with-place, with-note}
 use Rattle.rules.specs.Moves.{Side, on-left, on-right, slot-on, with-slot-on, with-tally, side-of, with-slot-for, with-joined}
 use Rattle.rules.specs.Sound.{stands-in, Rises, slot-at, is-made, Sounds-by}
 use Rattle.rules.proofs.SoundQueues.{put-cases}

@@ -1,24 +1,23 @@
 -- A request that has left a place's queue joins the queue of a place below it. Rests on SoundLeaves.
 use mathlib.Core.Path.{_≡_, refl, sym, ap, subst, _∙_}
-use mathlib.Core.Bool.{Bool, true, false, true≢false}
+use mathlib.Core.Bool.{true}
 use mathlib.Core.List.{List, [], _∷_, _++_}
 use mathlib.Core.Logic.{_⊎_, inl, inr, ⊎-elim}
 use Prim.Native.Nat.{ℕ, zero, suc, _≤_, _<_}
 use native.Mathlib.Omega.{arith}
 use Rattle.std.specs.Options.{isSome}
-use Rattle.std.specs.declared.option.Option.{Option}
-use Rattle.std.specs.declared.option.Option.the-variants.{Some, None}
+use Rattle.std.specs.declared.option.Option.the-variants.{Some}
 use Rattle.requests.specs.Stations.{is-station}
 use Rattle.requests.specs.declared.request.Request.{Request}
 use Rattle.rules.specs.declared.mode.Mode.{Mode}
 use Rattle.rules.specs.declared.mode.Mode.the-variants.{Between}
-use Rattle.rules.specs.States.{State, Slot, Place, Waiter, empty, holds, leads}
+use Rattle.rules.specs.States.{State, Waiter, leads}
 use Rattle.rules.specs.Queues.{given, numbered, stands}
-use Rattle.rules.specs.Changes.{put, with-queue, with-waiter}
+use Rattle.rules.specs.Changes.{put, with-waiter}
 use Rattle.rules.specs.Moves.{Side, on-left, on-right}
 use Rattle.rules.specs.Carries.{sought}
 use Rattle.rules.specs.Sound.{stands-in, Rises, slot-at, is-made, Sounds-by}
-use Rattle.rules.proofs.SoundQueues.{put-cases, in-stands, stands-joined, in-joined, rises-joined}
+use Rattle.rules.proofs.SoundQueues.{put-cases, stands-joined, in-joined, rises-joined}
 use Rattle.rules.proofs.SoundFrames.{Alike, alike-in}
 use Rattle.rules.proofs.SoundLeaves.{Mover, Freed, mover-alike}
 

@@ -1,23 +1,21 @@
 -- The head of a queue has left it and may join a place below: the state without it is sound, and it fits there. Rests on SoundFrames.
 use mathlib.Core.Path.{_≡_, refl, sym, ap, subst, _∙_}
-use mathlib.Core.Bool.{Bool, true, false, true≢false}
-use mathlib.Core.List.{List, [], _∷_, _++_}
-use mathlib.Core.Logic.{_⊎_, inl, inr, ⊎-elim}
+use mathlib.Core.Bool.{true}
+use mathlib.Core.List.{List, _∷_}
 use Prim.Native.Nat.{ℕ, zero, suc, _≤_, _<_}
 use native.Mathlib.Omega.{arith}
 use Rattle.std.specs.Options.{isSome}
-use Rattle.std.specs.declared.option.Option.{Option}
 use Rattle.std.specs.declared.option.Option.the-variants.{Some, None}
 use Rattle.requests.specs.Stations.{is-station}
 use Rattle.requests.specs.declared.request.Request.{Request}
 use Rattle.rules.specs.declared.mode.Mode.{Mode}
 use Rattle.rules.specs.declared.mode.Mode.the-variants.{Between}
-use Rattle.rules.specs.States.{State, Slot, Place, Waiter, empty, holds, leads}
+use Rattle.rules.specs.States.{State, Waiter, leads}
 use Rattle.rules.specs.Queues.{given, numbered, stands, behind}
-use Rattle.rules.specs.Changes.{put, with-queue}
+use Rattle.rules.specs.Changes.{with-queue}
 use Rattle.rules.specs.Moves.{Side, on-left, on-right}
 use Rattle.rules.specs.Carries.{sought}
-use Rattle.rules.specs.Sound.{stands-in, Rises, slot-at, is-made, Sounds-by}
+use Rattle.rules.specs.Sound.{stands-in, Rises, slot-at, Sounds-by}
 use Rattle.rules.proofs.SoundQueues.{put-cases, in-stands, head-stands, rises-above, behind-stands, behind-in, behind-rises}
 use Rattle.rules.proofs.SoundFrames.{Alike, alike-stood, alike-in, alike-given, alike-none, alike-held, sound-alike}
 

@@ -1,7 +1,6 @@
 -- A request that has left a place's queue makes a place below it. Rests on SoundLeaves.
 use mathlib.Core.Path.{_≡_, refl, sym, ap, subst, _∙_}
-use mathlib.Core.Bool.{Bool, true, false, true≢false}
-use mathlib.Core.List.{List, [], _∷_, _++_}
+use mathlib.Core.Bool.{true, true≢false}
 use mathlib.Core.Logic.{_⊎_, inl, inr, ⊎-elim}
 use Prim.Native.Nat.{ℕ, zero, suc, _≤_, _<_}
 use native.Mathlib.Omega.{arith}
@@ -13,7 +12,7 @@ use Rattle.std.proofs.shelf.Tests.{cases-eq}
 use Rattle.requests.specs.Stations.{is-station}
 use Rattle.rules.specs.declared.mode.Mode.{Mode}
 use Rattle.rules.specs.declared.mode.Mode.the-variants.{Between}
-use Rattle.rules.specs.States.{State, Slot, Place, Waiter, empty, holds, leads}
+use Rattle.rules.specs.States.{State, Slot, Place, empty, holds, leads}
 use Rattle.rules.specs.Queues.{given, numbered, stands}
 use Rattle.rules.specs.Changes.{put, with-gate, with-place}
 use Rattle.rules.specs.Moves.{Side, on-left, on-right, slot-on, with-slot-on, side-of, slot-for, with-slot-for}

@@ -1,9 +1,9 @@
 -- A move keeps soundness, for each kind of request. Rests on SoundJoins and SoundMakes.
-use mathlib.Core.Path.{_≡_, refl, sym, ap, subst, _∙_}
+use mathlib.Core.Path.{_≡_, refl, sym, ap, _∙_}
 use mathlib.Core.Bool.{Bool, true, false, cond, true≢false}
-use mathlib.Core.List.{List, [], _∷_, _++_}
-use mathlib.Core.Logic.{_⊎_, inl, inr, ⊎-elim}
-use Prim.Native.Nat.{ℕ, zero, suc, _≤_, _<_}
+use mathlib.Core.List.{List, _∷_}
+use mathlib.Core.Logic.{_⊎_, inl, inr}
+use Prim.Native.Nat.{ℕ, zero, suc}
 use native.Mathlib.Omega.{arith}
 use Rattle.std.specs.Options.{isSome}
 use Rattle.std.specs.declared.option.Option.{Option}
@@ -14,16 +14,16 @@ use Rattle.rules.specs.declared.mode.Mode.{Mode}
 use Rattle.rules.specs.declared.mode.Mode.the-variants.{Between, From, Upto}
 use Rattle.rules.specs.Kinds.{Kinds, before}
 use Rattle.rules.specs.States.{State, Slot, Place, Waiter, empty, holds, leads}
-use Rattle.rules.specs.Queues.{numbered, stands, behind}
+use Rattle.rules.specs.Queues.{numbered, stands}
 use Rattle.rules.specs.Changes.{with-waiter}
 use Rattle.rules.specs.Moves.{Side, on-left, on-right, slot-on, side-of, slot-for, with-slot-for, with-joined, with-added, whole, made-place, is-present, enter-at, withdraw-at, shown, stepped-all, count-steps, count-at, acted, moved}
 use Rattle.rules.specs.Carries.{sought}
-use Rattle.rules.specs.Sound.{stands-in, slot-at, Sounds-by, Sounds}
+use Rattle.rules.specs.Sound.{slot-at, Sounds-by, Sounds}
 use Rattle.rules.proofs.SoundQueues.{stands-some}
 use Rattle.rules.proofs.SoundFrames.{Alike, sound-alike, alike-answer, alike-counted, alike-slot, alike-joined, empty-leads, holds-leads}
-use Rattle.rules.proofs.SoundLeaves.{Mover, Freed, freed-alike, freed}
+use Rattle.rules.proofs.SoundLeaves.{Freed, freed-alike, freed}
 use Rattle.rules.proofs.SoundJoins.{Joiner, joiner, joiner-alike, sound-joins, joiner-again}
-use Rattle.rules.proofs.SoundMakes.{Grown, grown, sound-makes}
+use Rattle.rules.proofs.SoundMakes.{grown, sound-makes}
 
 pub sounds-of : {K T : Type 0} {s : State K T} {last above : ℕ → ℕ} → Sounds-by s last above → Sounds s
 sounds-of {last = last} {above = above} h = record { last = last; above = above; facts = h }

@@ -1,23 +1,21 @@
 -- A request more, and a request collected, keep soundness. Rests on SoundMoves.
 use mathlib.Core.Path.{_≡_, refl, sym, ap, subst, _∙_}
-use mathlib.Core.Bool.{Bool, true, false, cond, not, true≢false}
+use mathlib.Core.Bool.{true, not, true≢false}
 use mathlib.Core.List.{List, [], _∷_, _++_}
 use mathlib.Core.Logic.{_⊎_, inl, inr, ⊎-elim}
 use Prim.Native.Nat.{ℕ, zero, suc, _≤_, _<_}
 use native.Mathlib.Omega.{arith}
-use lib.ListN.{length, length-append}
-use Rattle.std.specs.Options.{isSome}
+use lib.ListN.{length-append}
 use Rattle.std.specs.declared.option.Option.{Option}
 use Rattle.std.specs.declared.option.Option.the-variants.{Some, None}
 use Rattle.requests.specs.Stations.{is-station}
 use Rattle.requests.specs.declared.request.Request.{Request}
 use Rattle.rules.specs.declared.mode.Mode.{Mode}
 use Rattle.rules.specs.declared.mode.Mode.the-variants.{Between}
-use Rattle.rules.specs.States.{State, Waiter, Desk, leads}
-use Rattle.rules.specs.Queues.{given, numbered, stands, waits, waiting-place, finished}
+use Rattle.rules.specs.States.{State, Waiter, leads}
+use Rattle.rules.specs.Queues.{given, stands, waits, finished}
 use Rattle.rules.specs.Changes.{put, with-request, with-waiter, with-uncollected}
 use Rattle.rules.specs.Moves.{Side, on-left, on-right}
-use Rattle.rules.specs.Carries.{sought}
 use Rattle.rules.specs.Sound.{stands-in, Rises, slot-at, is-made, Sounds-by}
 use Rattle.rules.proofs.Bools.{false-unless}
 use Rattle.rules.proofs.Times.{numbered-append}

@@ -6,13 +6,12 @@ use mathlib.Core.Logic.{_⊎_}
 use Prim.Native.Nat.{ℕ, zero, suc, _≤_, _<_}
 use lib.Dec.{eqb}
 use Rattle.std.specs.Options.{isSome}
-use Rattle.std.specs.declared.option.Option.{Option}
 use Rattle.std.specs.declared.option.Option.the-variants.{Some, None}
 use Rattle.requests.specs.Stations.{is-station}
 use Rattle.requests.specs.declared.request.Request.{Request}
 use Rattle.rules.specs.declared.mode.Mode.{Mode}
 use Rattle.rules.specs.declared.mode.Mode.the-variants.{Between, From, Upto}
-use Rattle.rules.specs.States.{State, Slot, Place, Waiter, empty, holds, leads}
+use Rattle.rules.specs.States.{State, Slot, Waiter, empty, leads}
 use Rattle.rules.specs.Queues.{given, numbered, stands}
 use Rattle.rules.specs.Moves.{Side, on-left, on-right, slot-on}
 use Rattle.rules.specs.Carries.{sought}

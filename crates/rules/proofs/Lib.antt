@@ -57,3 +57,13 @@ pub mod FactsWays
 pub mod FactsPlaces
 pub mod FactsFinished
 pub mod Facts
+pub mod SoundQueues
+pub mod SoundFrames
+pub mod SoundLeaves
+pub mod SoundJoins
+pub mod SoundMakes
+pub mod SoundMoves
+pub mod SoundSubmits
+pub mod SoundCalls
+pub mod SoundUses
+pub mod SoundRows

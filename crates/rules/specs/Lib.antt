@@ -6,6 +6,7 @@ pub mod Queues
 pub mod Changes
 pub mod Moves
 pub mod Carries
+pub mod Sound
 pub mod Calls
 pub mod ReadOff
 pub mod Laws

@@ -10,6 +10,7 @@ pub mod Pencil
 pub mod Vectors
 pub mod Cases
 pub mod Named
+pub mod Sizes
 pub mod Ways
 pub mod Shortcuts
 pub mod Teeth

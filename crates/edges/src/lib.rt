@@ -2,11 +2,14 @@
 ghost use Rattle.rules.specs.Kinds.{kinds-of};
 ghost use Rattle.edges.specs.Cases.{Edge-cases};
 ghost use Rattle.edges.specs.Named.{Named-cases};
+ghost use Rattle.edges.specs.Sizes.{Archive-sizes};
 ghost use Rattle.edges.specs.Teeth.{Shortcuts-break};
 ghost use Rattle.edges.specs.Vectors.{Vectors};
 use keys::Key;
 use keys::Route;
 use keys::RouteKey;
+use stored::StoredKey;
+use stored::StoredTally;
 use tallies::Number;
 use tallies::NumberTally;
 use tallies::Tally;
@@ -22,6 +25,11 @@ pub fn named_stand()
 {
     edges_stand::<Route, Number>();
 }
+
+// The smallest archives have the lengths and the parts that are told of them.
+pub fn sizes_stand<K: StoredKey, T: StoredTally<K>>()
+    ensures { λ _. ⌜ Archive-sizes (K·StoredKey .form) (T·StoredTally .form) ⌝ }
+{}
 
 // The worked runs come out line by line as they are written.
 pub fn vectors_stand()

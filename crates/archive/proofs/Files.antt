@@ -95,10 +95,12 @@ module _ {K T : Type 0} (keys : KeyForm K) (tallies : TallyForm T) (key-laws : K
       let asked-long : length (requests-part n (keys .size) bytes) ≡ n * lr = length-take-le (n * lr) (drop 36 bytes) (omega arith) in
       let answered-long : length (answers-part n (keys .size) bytes) ≡ n * la = length-drop (36 + n * lr) bytes ∙ omega arith in
       let found = rows-from keys tallies key-laws tally-laws n 1 36 1 (answers-start n (keys .size)) (requests-part n (keys .size) bytes) (answers-part n (keys .size) bytes) asked-long answered-long (all-bytes-drop (36 + n * lr) bytes b) (none-front asking answering rest) (none-back asking answering rest) in
-      let body : joined (request-row keys) (found .rows) ++ joined (answer-row tallies) (found .rows) ≡ drop 36 bytes = ap₂ (λ x y. x ++ y) (found .asked) (found .answered ∙ sym (drop-drop (n * lr) 36 bytes)) ∙ take-append-drop (n * lr) (drop 36 bytes) in
-      (found .rows, record {
-        key-fits = known .key-fits;
-        tally-fits = known .tally-fits;
-        few = omega (arith, found .counted, known .few);
-        same = known .headed ∙ sym (ap₂ (λ m l. header m (keys .size) (tallies .size) ++ l) (found .counted) body)
-      })
+      let body : joined (request-row keys) (found .rows) ++ joined (answer-row tallies) (found .rows) ≡ drop 36 bytes = ap₂ (λ x y. x ++ y) (found .asked) (found .answered ∙ sym (drop-drop (n * lr) 36 bytes)) ∙ take-append-drop (n * lr) (drop 36 bytes) in (
+        found .rows,
+        record {
+          key-fits = known .key-fits;
+          tally-fits = known .tally-fits;
+          few = omega (arith, found .counted, known .few);
+          same = known .headed ∙ sym (ap₂ (λ m l. header m (keys .size) (tallies .size) ++ l) (found .counted) body);
+        },
+      )

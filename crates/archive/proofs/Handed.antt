@@ -106,5 +106,5 @@ handed keys tallies key-laws tally-laws archive rows number key tally asked answ
       row = found .0;
       given = numbered rows number low ∙ found .1;
       request = request-part ∙ request-handed keys tallies key-laws tally-laws rows (number - 1) (found .0) there (found .1);
-      answer = answer-part ∙ answer-handed keys tallies key-laws tally-laws rows (number - 1) (found .0) there (found .1)
+      answer = answer-part ∙ answer-handed keys tallies key-laws tally-laws rows (number - 1) (found .0) there (found .1);
     }

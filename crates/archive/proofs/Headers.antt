@@ -124,7 +124,7 @@ header-known key tally bytes a h =
       tally-fits = widths-fit key tally widths .1;
       few = leb-true (rows-told bytes) 1024 few;
       long = eqb-true _ _ ends ∙ told;
-      headed = known
+      headed = known;
     }
 
 -- a header of kinds that are not too wide, with room for it: the nine fields decide, and then the end

@@ -70,7 +70,7 @@ reading key tally bytes a h =
       told = refl;
       asked-room = mul-le-mul {n₁ = rows-told bytes} {m₁ = request-length key} {n₂ = 1024} {m₂ = 36} n (omega arith);
       answered-room = mul-le-mul {n₁ = rows-told bytes} {m₁ = answer-length tally} {n₂ = 1024} {m₂ = 20} n (omega arith);
-      long = known .long ∙ ap (λ m. 36 + m) split
+      long = known .long ∙ ap (λ m. 36 + m) split;
     }
 
 -- the same, as the reader comes to know it
@@ -84,7 +84,7 @@ reading-of key tally count bytes o typed e n told =
       told = told;
       asked-room = omega (arith, ap (λ m. m * request-length key) told, r .asked-room);
       answered-room = omega (arith, ap (λ m. m * answer-length tally) told, r .answered-room);
-      long = r .long ∙ ap (λ m. 36 + (m * request-length key + m * answer-length tally)) (sym told)
+      long = r .long ∙ ap (λ m. 36 + (m * request-length key + m * answer-length tally)) (sym told);
     }
 
 module _ (key tally count : ℕ) (bytes : List ℕ) (known : Reading key tally count bytes) where

@@ -111,13 +111,15 @@ module _ {K : Type 0} (keys : KeyForm K) (laws : KeyLaws keys) where
       record {
         station = s .0;
         request = q .0;
-        same = five kinds (s .1) (sym zero-c) (sym zero-d) fields
+        same = five kinds (s .1) (sym zero-c) (sym zero-d) fields;
       }
     where
       gap-first : (c d : ℕ) → all-are 0 (c ∷ d ∷ []) ≡ true → c ≡ 0
       gap-first c d h = grind arith
+
       gap-second : (c d : ℕ) → all-are 0 (c ∷ d ∷ []) ≡ true → d ≡ 0
       gap-second c d h = grind arith
+
       five : {a b c d a′ b′ c′ d′ : ℕ} {r r′ : List ℕ} → a ≡ a′ → b ≡ b′ → c ≡ c′ → d ≡ d′ → r ≡ r′ → a ∷ b ∷ c ∷ d ∷ r ≡ a′ ∷ b′ ∷ c′ ∷ d′ ∷ r′
       five p q r s t = cc
 
@@ -179,18 +181,21 @@ module _ {T : Type 0} (tallies : TallyForm T) (laws : TallyLaws tallies) where
       let long : length rest ≡ tallies .size = omega arith in
       ⊎-elim
       (λ p.
-        let bare : all-are 0 rest ≡ true = rw (p .other) at t in
-        record { answer = p .answer; fitting = p .fitting; same = five (p .coded) (sym (gap-y y z w g)) (sym (gap-z y z w g)) (sym (gap-w y z w g)) (p .bare ∙ sym (zeros-from rest bare ∙ ap zeros long)) })
+      let bare : all-are 0 rest ≡ true = rw (p .other) at t in
+      record { answer = p .answer; fitting = p .fitting; same = five (p .coded) (sym (gap-y y z w g)) (sym (gap-z y z w g)) (sym (gap-w y z w g)) (p .bare ∙ sym (zeros-from rest bare ∙ ap zeros long)) })
       (λ p.
-        record { answer = Some (Counted (tallies .read rest)); fitting = ap (λ q. answers q 5) (p .0); same = five (sym (p .1)) (sym (gap-y y z w g)) (sym (gap-z y z w g)) (sym (gap-w y z w g)) (laws .rewritten rest long (all-bytes-drop 4 (x ∷ y ∷ z ∷ w ∷ rest) b)) })
+      record { answer = Some (Counted (tallies .read rest)); fitting = ap (λ q. answers q 5) (p .0); same = five (sym (p .1)) (sym (gap-y y z w g)) (sym (gap-z y z w g)) (sym (gap-w y z w g)) (laws .rewritten rest long (all-bytes-drop 4 (x ∷ y ∷ z ∷ w ∷ rest) b)) })
       (coded-from k x h)
     where
       gap-y : (y z w : ℕ) → all-are 0 (y ∷ z ∷ w ∷ []) ≡ true → y ≡ 0
       gap-y y z w h = grind arith
+
       gap-z : (y z w : ℕ) → all-are 0 (y ∷ z ∷ w ∷ []) ≡ true → z ≡ 0
       gap-z y z w h = grind arith
+
       gap-w : (y z w : ℕ) → all-are 0 (y ∷ z ∷ w ∷ []) ≡ true → w ≡ 0
       gap-w y z w h = grind arith
+
       five : {a b c d a′ b′ c′ d′ : ℕ} {r r′ : List ℕ} → a ≡ a′ → b ≡ b′ → c ≡ c′ → d ≡ d′ → r ≡ r′ → a ∷ b ∷ c ∷ d ∷ r ≡ a′ ∷ b′ ∷ c′ ∷ d′ ∷ r′
       five p q r s t = cc
 
@@ -236,5 +241,5 @@ module _ {K T : Type 0} (keys : KeyForm K) (tallies : TallyForm T) (key-laws : K
         rows = this ∷ others .rows;
         counted = ap suc (others .counted);
         asked = ap₂ (λ x y. x ++ y) (a .same) (others .asked) ∙ take-append-drop lr requests;
-        answered = ap₂ (λ x y. x ++ y) (w .same) (others .answered) ∙ take-append-drop la answers
+        answered = ap₂ (λ x y. x ++ y) (w .same) (others .answered) ∙ take-append-drop la answers;
       }

@@ -31,7 +31,7 @@ use Rattle.archive.proofs.RowBytes.{request-row-long, answer-row-long}
 pub station-path : (a b : Station) → a .number ≡ b .number → a ≡ b
 station-path a b p = λ i. record {
   number = p i;
-  known = isProp→PathP (λ j. (1 ≤ p j) × (p j ≤ 8)) (λ j. ×-prop le-prop le-prop) (a .known) (b .known) i
+  known = isProp→PathP (λ j. (1 ≤ p j) × (p j ≤ 8)) (λ j. ×-prop le-prop le-prop) (a .known) (b .known) i;
 }
 
 pub row-path : {K T : Type 0} (a b : Row K T) → a .station ≡ b .station → a .request ≡ b .request → a .answer ≡ b .answer → a ≡ b
@@ -39,7 +39,7 @@ row-path a b p q r = λ i. record {
   station = p i;
   request = q i;
   answer = r i;
-  answered = isProp→PathP (λ j. fits (q j) (r j) ≡ true) (λ j. Bool-set (fits (q j) (r j)) true) (a .answered) (b .answered) i
+  answered = isProp→PathP (λ j. fits (q j) (r j) ≡ true) (λ j. Bool-set (fits (q j) (r j)) true) (a .answered) (b .answered) i;
 }
 
 module _ {T : Type 0} (tallies : TallyForm T) (laws : TallyLaws tallies) where

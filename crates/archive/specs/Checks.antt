@@ -96,11 +96,11 @@ is-second keys kind bytes = cond (eqb kind 4) (isSome (keys .read bytes)) (all-a
 abbrev pub request-checks : {K : Type 0} → KeyForm K → ℕ → ℕ → List ℕ → List Check
 request-checks keys number offset row =
     record { holds = isSome (kind-numbered (getD row 0 0)); fault = in-request number offset }
-  ∷ record { holds = is-station (getD row 1 0); fault = in-request number (offset + 1) }
-  ∷ record { holds = all-are 0 (take 2 (drop 2 row)); fault = in-request number (offset + 2) }
-  ∷ record { holds = isSome (keys .read (take (keys .size) (drop 4 row))); fault = in-request number (offset + 4) }
-  ∷ record { holds = is-second keys (getD row 0 0) (drop (4 + keys .size) row); fault = in-request number (offset + 4 + keys .size) }
-  ∷ []
+    ∷ record { holds = is-station (getD row 1 0); fault = in-request number (offset + 1) }
+    ∷ record { holds = all-are 0 (take 2 (drop 2 row)); fault = in-request number (offset + 2) }
+    ∷ record { holds = isSome (keys .read (take (keys .size) (drop 4 row))); fault = in-request number (offset + 4) }
+    ∷ record { holds = is-second keys (getD row 0 0) (drop (4 + keys .size) row); fault = in-request number (offset + 4 + keys .size) }
+    ∷ []
 
 -- so many request rows, from one of that number and offset on
 abbrev pub requests-checks : {K : Type 0} → KeyForm K → ℕ → ℕ → ℕ → List ℕ → List Check
@@ -117,9 +117,9 @@ is-code (Some kind) code = eqb code 0 || answers kind code
 abbrev pub answer-checks : ℕ → ℕ → ℕ → List ℕ → List Check
 answer-checks kind number offset row =
     record { holds = is-code (kind-numbered kind) (getD row 0 0); fault = in-answer number offset }
-  ∷ record { holds = all-are 0 (take 3 (drop 1 row)); fault = in-answer number (offset + 1) }
-  ∷ record { holds = eqb (getD row 0 0) 5 || all-are 0 (drop 4 row); fault = in-answer number (offset + 4) }
-  ∷ []
+    ∷ record { holds = all-are 0 (take 3 (drop 1 row)); fault = in-answer number (offset + 1) }
+    ∷ record { holds = eqb (getD row 0 0) 5 || all-are 0 (drop 4 row); fault = in-answer number (offset + 4) }
+    ∷ []
 
 -- so many answer rows, from one of that number and offset on, beside the request rows
 abbrev pub answers-checks : ℕ → ℕ → ℕ → ℕ → ℕ → List ℕ → List ℕ → List Check

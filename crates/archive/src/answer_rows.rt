@@ -52,7 +52,13 @@ fn answer_fault(kind: u8, row: &[u8], number: usize, offset: usize) -> Option<Fa
 }
 
 // The first fault of all answer rows.
-pub fn answers_fault(requests: &[u8], answers: &[u8], key: usize, tally: usize, count: usize) -> Option<Fault>
+pub fn answers_fault(
+    requests: &[u8],
+    answers: &[u8],
+    key: usize,
+    tally: usize,
+    count: usize,
+) -> Option<Fault>
     requires widths { ⌜ key ≤ 16 ⌝ ∗ ⌜ tally ≤ 16 ⌝ ∗ ⌜ count ≤ 1024 ⌝ }
     requires rows { ⌜ length (now requests) ≡ count * request-length key ⌝ ∗ ⌜ length (now answers) ≡ count * answer-length tally ⌝ }
     requires short { ⌜ length (now requests) ≤ 65000 ⌝ ∗ ⌜ length (now answers) ≤ 65000 ⌝ }

@@ -10,7 +10,9 @@ use stored::WIDEST;
 use stored::from_four;
 
 pub const HEADER_LENGTH: usize = 36;
+
 const EDITION: usize = 1;
+
 pub const MOST_ROWS: usize = 1024;
 
 // The header field at an offset.
@@ -18,7 +20,12 @@ pub fn field(bytes: &[u8], offset: usize) -> usize
     requires { ⌜ offset + 4 ≤ length (now bytes) ⌝ }
     ensures { λ r. ⌜ r ≡ field-at (now (bytes .entry)) offset ⌝ }
 {
-    from_four(bytes[offset], bytes[offset + 1], bytes[offset + 2], bytes[offset + 3]) as usize
+    from_four(
+        bytes[offset],
+        bytes[offset + 1],
+        bytes[offset + 2],
+        bytes[offset + 3],
+    ) as usize
 }
 
 // What the last seven fields must be.

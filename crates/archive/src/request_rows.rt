@@ -43,7 +43,12 @@ fn is_second<K: StoredKey>(kind: u8, bytes: &[u8]) -> bool
 }
 
 // The first fault of a request row.
-fn request_fault<K: StoredKey>(row: &[u8], width: usize, number: usize, offset: usize) -> Option<Fault>
+fn request_fault<K: StoredKey>(
+    row: &[u8],
+    width: usize,
+    number: usize,
+    offset: usize,
+) -> Option<Fault>
     requires { ⌜ K·StoredKey .form .size ≤ 16 ⌝ ∗ ⌜ width ≡ K·StoredKey .form .size ⌝ ∗ ⌜ length (now row) ≡ request-length width ⌝ ∗ ⌜ offset ≤ 65536 ⌝ }
     ensures { λ r. ⌜ r ≡ first-fault (request-checks (K·StoredKey .form) number offset (now (row .entry))) ⌝ }
 {

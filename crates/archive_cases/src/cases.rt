@@ -11,7 +11,11 @@ use writing::write_again;
 const ROOM: usize = 512;
 
 // What opening these bytes says.
-fn told<K: StoredKey, T: StoredTally<K>>(rt: &LibcRuntime, name: &str, bytes: &[u8]) -> io::Result<()> {
+fn told<K: StoredKey, T: StoredTally<K>>(
+    rt: &LibcRuntime,
+    name: &str,
+    bytes: &[u8],
+) -> io::Result<()> {
     match Archive::<K, T>::open(bytes) {
         Ok(archive) => {
             let count = archive.count();
@@ -22,7 +26,10 @@ fn told<K: StoredKey, T: StoredTally<K>>(rt: &LibcRuntime, name: &str, bytes: &[
             let layer = fault.layer.word();
             let row = fault.row;
             let offset = fault.offset;
-            println!(rt, "{name}: fault {number} {layer} row {row} offset {offset}")
+            println!(
+                rt,
+                "{name}: fault {number} {layer} row {row} offset {offset}"
+            )
         }
     }
 }
@@ -43,7 +50,13 @@ fn again<K: StoredKey, T: StoredTally<K>>(rt: &LibcRuntime, bytes: &[u8]) -> io:
 }
 
 // The file with one byte changed, and then as it was.
-fn changed<K: StoredKey, T: StoredTally<K>>(rt: &LibcRuntime, buffer: &mut [u8], length: usize, offset: usize, value: u8) -> io::Result<()> {
+fn changed<K: StoredKey, T: StoredTally<K>>(
+    rt: &LibcRuntime,
+    buffer: &mut [u8],
+    length: usize,
+    offset: usize,
+    value: u8,
+) -> io::Result<()> {
     if offset >= buffer.len() || length > buffer.len() {
         return println!(rt, "no such byte");
     }
@@ -56,7 +69,11 @@ fn changed<K: StoredKey, T: StoredTally<K>>(rt: &LibcRuntime, buffer: &mut [u8],
 }
 
 // The file whole, and too long or too short.
-fn lengths<K: StoredKey, T: StoredTally<K>>(rt: &LibcRuntime, buffer: &[u8], length: usize) -> io::Result<()> {
+fn lengths<K: StoredKey, T: StoredTally<K>>(
+    rt: &LibcRuntime,
+    buffer: &[u8],
+    length: usize,
+) -> io::Result<()> {
     if length < 36 || length >= buffer.len() {
         return println!(rt, "no file");
     }
@@ -69,7 +86,11 @@ fn lengths<K: StoredKey, T: StoredTally<K>>(rt: &LibcRuntime, buffer: &[u8], len
 }
 
 // Each field of the header.
-fn headers<K: StoredKey, T: StoredTally<K>>(rt: &LibcRuntime, buffer: &mut [u8], length: usize) -> io::Result<()> {
+fn headers<K: StoredKey, T: StoredTally<K>>(
+    rt: &LibcRuntime,
+    buffer: &mut [u8],
+    length: usize,
+) -> io::Result<()> {
     for i in 0..9usize {
         changed::<K, T>(rt, buffer, length, 4 * i + 3, 255)?;
     }
@@ -77,7 +98,12 @@ fn headers<K: StoredKey, T: StoredTally<K>>(rt: &LibcRuntime, buffer: &mut [u8],
 }
 
 // Each field of the first request row, and both keys of the second, which is a count's.
-fn requests<K: StoredKey, T: StoredTally<K>>(rt: &LibcRuntime, buffer: &mut [u8], length: usize, key: usize) -> io::Result<()> {
+fn requests<K: StoredKey, T: StoredTally<K>>(
+    rt: &LibcRuntime,
+    buffer: &mut [u8],
+    length: usize,
+    key: usize,
+) -> io::Result<()> {
     if key < 1 || key > 16 {
         return println!(rt, "no key");
     }
@@ -92,7 +118,13 @@ fn requests<K: StoredKey, T: StoredTally<K>>(rt: &LibcRuntime, buffer: &mut [u8]
 }
 
 // Each field of the first answer row, and of the second, which is a count's.
-fn answers<K: StoredKey, T: StoredTally<K>>(rt: &LibcRuntime, buffer: &mut [u8], length: usize, key: usize, tally: usize) -> io::Result<()> {
+fn answers<K: StoredKey, T: StoredTally<K>>(
+    rt: &LibcRuntime,
+    buffer: &mut [u8],
+    length: usize,
+    key: usize,
+    tally: usize,
+) -> io::Result<()> {
     if key > 16 || tally > 16 {
         return println!(rt, "no kinds");
     }
@@ -107,7 +139,11 @@ fn answers<K: StoredKey, T: StoredTally<K>>(rt: &LibcRuntime, buffer: &mut [u8],
 }
 
 // All cases of a file in a buffer.
-fn file<K: StoredKey, T: StoredTally<K>>(rt: &LibcRuntime, buffer: &mut [u8], length: usize) -> io::Result<()> {
+fn file<K: StoredKey, T: StoredTally<K>>(
+    rt: &LibcRuntime,
+    buffer: &mut [u8],
+    length: usize,
+) -> io::Result<()> {
     let key = K::width();
     let tally = T::width();
     lengths::<K, T>(rt, buffer, length)?;
@@ -117,7 +153,11 @@ fn file<K: StoredKey, T: StoredTally<K>>(rt: &LibcRuntime, buffer: &mut [u8], le
 }
 
 // All cases of a sample's kinds.
-pub fn cases<K: StoredKey + Drop, T: StoredTally<K> + Drop>(rt: &LibcRuntime, name: &str, sample: &Sample<K, T>) -> io::Result<()> {
+pub fn cases<K: StoredKey + Drop, T: StoredTally<K> + Drop>(
+    rt: &LibcRuntime,
+    name: &str,
+    sample: &Sample<K, T>,
+) -> io::Result<()> {
     let mut buffer = [0u8; ROOM];
     match write::<K, T, Sample<K, T>>(sample, &mut buffer) {
         Ok(length) => {
@@ -133,7 +173,11 @@ pub fn cases<K: StoredKey + Drop, T: StoredTally<K> + Drop>(rt: &LibcRuntime, na
 }
 
 // A short file: its length, and one byte of it changed.
-pub fn small<K: StoredKey + Drop, T: StoredTally<K> + Drop>(rt: &LibcRuntime, sample: &Sample<K, T>, offset: usize) -> io::Result<()> {
+pub fn small<K: StoredKey + Drop, T: StoredTally<K> + Drop>(
+    rt: &LibcRuntime,
+    sample: &Sample<K, T>,
+    offset: usize,
+) -> io::Result<()> {
     let mut buffer = [0u8; ROOM];
     let Ok(length) = write::<K, T, Sample<K, T>>(sample, &mut buffer) else {
         return println!(rt, "not written");

@@ -29,8 +29,16 @@ pub impl<K: StoredKey + Drop, T: StoredTally<K> + Drop> Rows<K, T> for Sample<K,
         let second = self.second;
         let tally = self.tally;
         let made = match number {
-            1 => Row::new(Station::new(1)?, Request::Enter(first), Some(Answer::Changed)),
-            2 => Row::new(Station::new(8)?, Request::Count(first, second), Some(Answer::Counted(tally))),
+            1 => Row::new(
+                Station::new(1)?,
+                Request::Enter(first),
+                Some(Answer::Changed),
+            ),
+            2 => Row::new(
+                Station::new(8)?,
+                Request::Count(first, second),
+                Some(Answer::Counted(tally)),
+            ),
             3 => Row::new(Station::new(3)?, Request::LookUp(first), None),
             _ => None,
         };

@@ -30,7 +30,16 @@ use Rattle.cells.proofs.Numbers.{numbered-set, map-set-same, mapped-set-same}
 pub state-path : {K T : Type 0} (a b : State K T) → a .capacity ≡ b .capacity → a .requests ≡ b .requests → a .asker ≡ b .asker → a .decision ≡ b .decision
     → a .answer ≡ b .answer → a .counted ≡ b .counted → a .slot ≡ b .slot → a .place ≡ b .place → a .queue ≡ b .queue → a .desk ≡ b .desk → a ≡ b
 state-path a b p1 p2 p3 p4 p5 p6 p7 p8 p9 p10 = λ i. record {
-  capacity = p1 i; requests = p2 i; asker = p3 i; decision = p4 i; answer = p5 i; counted = p6 i; slot = p7 i; place = p8 i; queue = p9 i; desk = p10 i
+  capacity = p1 i;
+  requests = p2 i;
+  asker = p3 i;
+  decision = p4 i;
+  answer = p5 i;
+  counted = p6 i;
+  slot = p7 i;
+  place = p8 i;
+  queue = p9 i;
+  desk = p10 i;
 }
 
 -- a part of a cell, as a row by number, after a write
@@ -86,7 +95,7 @@ module _ {K F T : Type 0} (k : key.Ghosts K F) (t : tally.Ghosts T K F) where
     slot = s .slot;
     place = put (s .place) (suc i) place;
     queue = λ p. roster p 1 (set waits i (c .waits));
-    desk = s .desk
+    desk = s .desk;
   }
 
   -- writing the cell of a submitted request writes just these parts
@@ -102,16 +111,19 @@ module _ {K F T : Type 0} (k : key.Ghosts K F) (t : tally.Ghosts T K F) where
       (by-part (λ x. x .counted) (t .none) ∙ part-set (λ x. x .counted) (t .none) (take count cells) i c′ long)
       (ap (λ v. slot-shown k t v gate) live ∙ slot-same (take count cells) i c c′ e same gate)
       (ap (λ v. (λ j. elim (numbered v j) as (λ _. Option (Place K T)) [ None ↦ None | Some x ↦ place-shown k t v x ])) live
-        ∙ fun-ext (λ j. ap (λ (f : Cell F T → Option (Place K T)). elim (numbered (set (take count cells) i c′) j) as (λ _. Option (Place K T)) [ None ↦ None | Some x ↦ f x ]) (fun-ext (place-same (take count cells) i c c′ e same)))
-        ∙ part-set (place-shown k t (take count cells)) None (take count cells) i c′ long)
+      ∙ fun-ext (λ j. ap (λ (f : Cell F T → Option (Place K T)). elim (numbered (set (take count cells) i c′) j) as (λ _. Option (Place K T)) [ None ↦ None | Some x ↦ f x ]) (fun-ext (place-same (take count cells) i c c′ e same)))
+      ∙ part-set (place-shown k t (take count cells)) None (take count cells) i c′ long)
       (fun-ext (λ p. ap (λ v. roster p 1 (map (λ x. x .waits) v)) live ∙ ap (roster p 1) (map-set (λ x. x .waits) (take count cells) i c′)))
       refl
     where
       live : take count (set cells i c′) ≡ set (take count cells) i c′
       live = take-set-lt count cells i c′ h
+
       long : i < length (take count cells)
       long = let e = length-take-le count cells n in omega arith
+
       requests : request-in k t c ≡ request-in k t c′
       requests = let a = same .kind in let b = same .first in let d = same .second in cc
+
       by-part : {Y : Type 0} (f : Cell F T → Y) (none : Y) → _≡_ {A = ℕ → Y} (λ j. elim (numbered (take count (set cells i c′)) j) as (λ _. Y) [ None ↦ none | Some x ↦ f x ]) (λ j. elim (numbered (set (take count cells) i c′) j) as (λ _. Y) [ None ↦ none | Some x ↦ f x ])
       by-part {Y = Y} f none = ap (λ v. (λ j. elim (numbered v j) as (λ _. Y) [ None ↦ none | Some x ↦ f x ])) live

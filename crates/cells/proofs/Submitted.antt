@@ -101,7 +101,7 @@ module _ {K F T : Type 0} (k : key.Ghosts K F) (t : tally.Ghosts T K F) where
   -- the desk of station n with its uncollected request written
   desk-set : (desks : List Desk) (n : ℕ) (d : Desk) (v : Option ℕ) → n < length desks → numbered desks (suc n) ≡ Some d
       → _≡_ {A = ℕ → rules.Desk} (λ j. elim (numbered (set desks n (record { note = d .note; uncollected = v })) j) as (λ _. rules.Desk) [ None ↦ record { note = note.None; uncollected = None } | Some e ↦ record { note = e .note; uncollected = e .uncollected } ])
-        (put (λ j. elim (numbered desks j) as (λ _. rules.Desk) [ None ↦ record { note = note.None; uncollected = None } | Some e ↦ record { note = e .note; uncollected = e .uncollected } ]) (suc n) (record { note = d .note; uncollected = v }))
+      (put (λ j. elim (numbered desks j) as (λ _. rules.Desk) [ None ↦ record { note = note.None; uncollected = None } | Some e ↦ record { note = e .note; uncollected = e .uncollected } ]) (suc n) (record { note = d .note; uncollected = v }))
   desk-set desks n d v h e = fun-ext (λ j. ap (λ o. elim o as (λ _. rules.Desk) [ None ↦ record { note = note.None; uncollected = None } | Some e ↦ record { note = e .note; uncollected = e .uncollected } ]) (numbered-set desks n (record { note = d .note; uncollected = v }) j h) ∙ go (eqb j (suc n)) (numbered desks j))
     where
       go : (b : Bool) (o : Option Desk) → elim (cond b (Some (record { note = d .note; uncollected = v })) o) as (λ _. rules.Desk) [ None ↦ record { note = note.None; uncollected = None } | Some e ↦ record { note = e .note; uncollected = e .uncollected } ] ≡ cond b (record { note = d .note; uncollected = v }) (elim o as (λ _. rules.Desk) [ None ↦ record { note = note.None; uncollected = None } | Some e ↦ record { note = e .note; uncollected = e .uncollected } ])
@@ -112,7 +112,7 @@ module _ {K F T : Type 0} (k : key.Ghosts K F) (t : tally.Ghosts T K F) where
   pub shown-submit : (cells : List (Cell F T)) (count : ℕ) (gate : Slot) (desks : List Desk) (n : ℕ) (r : Request K) (c : Cell F T) (d : Desk)
       → count < length cells → n < length desks → numbered desks (suc n) ≡ Some d → Next-cell (suc n) r c → Slot-named count gate → Cells-named count (take count cells)
       → state-shown k t (set cells count c) (suc count) gate (set desks n (record { note = d .note; uncollected = Some (suc count) }))
-        ≡ with-uncollected (with-waiter (with-request (state-shown k t cells count gate desks) (suc count) (suc n) r) 0 (suc count) mode.Between) (suc n) (Some (suc count))
+      ≡ with-uncollected (with-waiter (with-request (state-shown k t cells count gate desks) (suc count) (suc n) r) 0 (suc count) mode.Between) (suc n) (Some (suc count))
   shown-submit cells count gate desks n r c d h m e next named all =
       state-path _ _
       (ap (min 1024) (length-set cells count c))
@@ -123,17 +123,19 @@ module _ {K F T : Type 0} (k : key.Ghosts K F) (t : tally.Ghosts T K F) where
       (nothing (λ x. x .counted) (t .none) (next .counted))
       (ap (λ v. slot-shown k t v gate) live ∙ slot-more (take count cells) c gate (subst (λ i. Slot-named i gate) (sym long) named))
       (ap (λ v. (λ j. elim (numbered v j) as (λ _. Option (Place K T)) [ None ↦ None | Some x ↦ place-shown k t v x ])) live
-        ∙ part-more (place-shown k t (take count cells ++ (c ∷ []))) None (take count cells) c
-        ∙ ap (put (λ j. elim (numbered (take count cells) j) as (λ _. Option (Place K T)) [ None ↦ None | Some x ↦ place-shown k t (take count cells ++ (c ∷ [])) x ]) (suc (length (take count cells)))) (unmade (take count cells ++ (c ∷ [])) c (next .made))
-        ∙ put-none (place-shown k t (take count cells ++ (c ∷ []))) None (take count cells)
-        ∙ fun-ext (places-more (take count cells) c (take count cells) (subst (λ i. Cells-named i (take count cells)) (sym long) all)))
+      ∙ part-more (place-shown k t (take count cells ++ (c ∷ []))) None (take count cells) c
+      ∙ ap (put (λ j. elim (numbered (take count cells) j) as (λ _. Option (Place K T)) [ None ↦ None | Some x ↦ place-shown k t (take count cells ++ (c ∷ [])) x ]) (suc (length (take count cells)))) (unmade (take count cells ++ (c ∷ [])) c (next .made))
+      ∙ put-none (place-shown k t (take count cells ++ (c ∷ []))) None (take count cells)
+      ∙ fun-ext (places-more (take count cells) c (take count cells) (subst (λ i. Cells-named i (take count cells)) (sym long) all)))
       (fun-ext (λ p. queue p))
       (desk-set desks n d (Some (suc count)) m e ∙ ap (λ v. put (λ j. elim (numbered desks j) as (λ _. rules.Desk) [ None ↦ record { note = note.None; uncollected = None } | Some e ↦ record { note = e .note; uncollected = e .uncollected } ]) (suc n) (record { note = v; uncollected = Some (suc count) })) (sym (ap (λ o. elim o as (λ _. rules.Desk) [ None ↦ record { note = note.None; uncollected = None } | Some e ↦ record { note = e .note; uncollected = e .uncollected } ] .note) e)))
     where
       live : take (suc count) (set cells count c) ≡ take count cells ++ (c ∷ [])
       live = ap (λ i. take i (set cells count c)) (sym (add-one count)) ∙ take-more-set cells count c h
+
       long : length (take count cells) ≡ count
       long = length-take-le count cells (omega arith)
+
       -- at the gate the new request comes last, and every other queue is as it was
       queue : (p : ℕ) → roster p 1 (map (λ x. x .waits) (take (suc count) (set cells count c))) ≡ put (λ q. roster q 1 (map (λ x. x .waits) (take count cells))) 0 (roster 0 1 (map (λ x. x .waits) (take count cells)) ++ (record { number = suc count; mode = mode.Between } ∷ [])) p
       queue p =
@@ -146,12 +148,15 @@ module _ {K F T : Type 0} (k : key.Ghosts K F) (t : tally.Ghosts T K F) where
         where
           place-of : 1 + length (map (λ x. x .waits) (take count cells)) ≡ suc count
           place-of = let a : length (map (λ x. x .waits) (take count cells)) ≡ length (take count cells) = length-map (take count cells) (λ x. x .waits) in omega (arith, long)
+
           go : (b : Bool) → eqb p 0 ≡ b → roster p 1 (map (λ x. x .waits) (take count cells)) ++ waiter-if (suc count) (mode-at (waits.Between 0) p) ≡ cond b (roster 0 1 (map (λ x. x .waits) (take count cells)) ++ (record { number = suc count; mode = mode.Between } ∷ [])) (roster p 1 (map (λ x. x .waits) (take count cells)))
           go true z = let is : p ≡ 0 = grind arith in ap (λ q. roster q 1 (map (λ x. x .waits) (take count cells)) ++ waiter-if (suc count) (mode-at (waits.Between 0) q)) is
           go false z =
               let other : eqb 0 p ≡ false = grind arith in
               ap (λ b. roster p 1 (map (λ x. x .waits) (take count cells)) ++ waiter-if (suc count) (cond b (Some mode.Between) None)) other ∙ append-nil (roster p 1 (map (λ x. x .waits) (take count cells)))
+
       by-part : {Y : Type 0} (f : Cell F T → Y) (none : Y) → _≡_ {A = ℕ → Y} (λ j. elim (numbered (take (suc count) (set cells count c)) j) as (λ _. Y) [ None ↦ none | Some x ↦ f x ]) (λ j. elim (numbered (take count cells ++ (c ∷ [])) j) as (λ _. Y) [ None ↦ none | Some x ↦ f x ])
       by-part {Y = Y} f none = ap (λ v. (λ j. elim (numbered v j) as (λ _. Y) [ None ↦ none | Some x ↦ f x ])) live
+
       nothing : {Y : Type 0} (f : Cell F T → Y) (none : Y) → f c ≡ none → _≡_ {A = ℕ → Y} (λ j. elim (numbered (take (suc count) (set cells count c)) j) as (λ _. Y) [ None ↦ none | Some x ↦ f x ]) (λ j. elim (numbered (take count cells) j) as (λ _. Y) [ None ↦ none | Some x ↦ f x ])
       nothing {Y = Y} f none is = by-part f none ∙ part-more f none (take count cells) c ∙ ap (put (λ j. elim (numbered (take count cells) j) as (λ _. Y) [ None ↦ none | Some x ↦ f x ]) (suc (length (take count cells)))) is ∙ put-none f none (take count cells)

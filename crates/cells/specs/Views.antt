@@ -27,8 +27,19 @@ use Rattle.cells.specs.Rosters.{roster}
 -- a cell as it is lent
 abbrev pub blank-cell : {F T : Type 0} → F → T → Cell F T
 blank-cell fields none = record {
-  station = 0; kind = kind.LookUp; first = fields; second = fields; decision = None; outcome = None; counted = none;
-  waits = waits.Nowhere; made = false; split = 0; left = slot.Empty; right = slot.Empty; tally = none
+  station = 0;
+  kind = kind.LookUp;
+  first = fields;
+  second = fields;
+  decision = None;
+  outcome = None;
+  counted = none;
+  waits = waits.Nowhere;
+  made = false;
+  split = 0;
+  left = slot.Empty;
+  right = slot.Empty;
+  tally = none;
 }
 
 module _ {K F T : Type 0} (k : key.Ghosts K F) (t : tally.Ghosts T K F) where
@@ -55,8 +66,10 @@ module _ {K F T : Type 0} (k : key.Ghosts K F) (t : tally.Ghosts T K F) where
   -- the place of a cell, once it is made
   abbrev pub place-shown : List (Cell F T) → Cell F T → Option (Place K T)
   place-shown cells c =
-      elim (key-named cells (c .split)) [ None ↦ None
-      | Some s ↦ cond (c .made) (Some (record { split = s; left = slot-shown cells (c .left); right = slot-shown cells (c .right); tally = c .tally })) None ]
+      elim (key-named cells (c .split)) [
+        | None ↦ None
+        | Some s ↦ cond (c .made) (Some (record { split = s; left = slot-shown cells (c .left); right = slot-shown cells (c .right); tally = c .tally })) None
+      ]
 
   -- the state shown: only the first cells, one for each request submitted, count
   abbrev pub state-shown : List (Cell F T) → ℕ → Slot → List Desk → State K T
@@ -70,5 +83,5 @@ module _ {K F T : Type 0} (k : key.Ghosts K F) (t : tally.Ghosts T K F) where
     slot = slot-shown (take count cells) gate;
     place = λ i. elim (numbered (take count cells) i) [ None ↦ None | Some c ↦ place-shown (take count cells) c ];
     queue = λ p. roster p 1 (map (λ c. c .waits) (take count cells));
-    desk = λ n. elim (numbered desks n) [ None ↦ record { note = note.None; uncollected = None } | Some d ↦ record { note = d .note; uncollected = d .uncollected } ]
+    desk = λ n. elim (numbered desks n) [ None ↦ record { note = note.None; uncollected = None } | Some d ↦ record { note = d .note; uncollected = d .uncollected } ];
   }

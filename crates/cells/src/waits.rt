@@ -20,7 +20,11 @@ impl Waits {
     {
         match self {
             Waits::Nowhere => None,
-            Waits::Between(p) => if p == place { Some(Mode::Between) } else { None },
+            Waits::Between(p) => if p == place {
+                Some(Mode::Between)
+            } else {
+                None
+            },
             Waits::From(p) => if p == place { Some(Mode::From) } else { None },
             Waits::Upto(p) => if p == place { Some(Mode::Upto) } else { None },
             Waits::Halves(from, upto) => {

@@ -51,7 +51,7 @@ module _ {K T : Type 0} (w : Kinds K T) where
   pub first-needs-four : First-needs-four w
   first-needs-four cells k h = (
     subst (λ s. Serves w 2 1 s (help-twice 2 1)) (sym (one-taken w cells (Enter k) h))
-    ((λ _. refl), ((λ _. refl), ((λ _. refl), ((λ _. refl), tt)))),
+        ((λ _. refl), ((λ _. refl), ((λ _. refl), ((λ _. refl), tt)))),
     refl,
     refl,
     ap (λ s. finished s 1) (goes-on cells (Enter k) (follow 2 1 ∷ carry 2 ∷ follow 2 1 ∷ []) h),

@@ -50,8 +50,9 @@ one-row row =
     let tally-long : length (tally ++ []) ≡ 4 = ap (length {A = ℕ}) tally-alone ∙ four-long (row .answer) in
     let all-long : length ((keys ++ []) ++ later) ≡ length (keys ++ []) + length later = length-append (keys ++ []) later in
     let long : length ((keys ++ []) ++ later) ≡ 18 = omega arith in
-    let whole : length (file route-form number-form (row ∷ [])) ≡ 58 = omega arith in
-    (whole
-    , refl
-    , ap (λ x. kind-number (kind-of (row .request)) ∷ row .station .number ∷ 0 ∷ 0 ∷ x) (take-at (keys ++ []) later 10 keys-long ∙ keys-alone)
-    , drop-at (keys ++ []) later 10 keys-long ∙ ap (λ x. code-of (row .answer) ∷ 0 ∷ 0 ∷ 0 ∷ x) tally-alone)
+    let whole : length (file route-form number-form (row ∷ [])) ≡ 58 = omega arith in (
+      whole,
+      refl,
+      ap (λ x. kind-number (kind-of (row .request)) ∷ row .station .number ∷ 0 ∷ 0 ∷ x) (take-at (keys ++ []) later 10 keys-long ∙ keys-alone),
+      drop-at (keys ++ []) later 10 keys-long ∙ ap (λ x. code-of (row .answer) ∷ 0 ∷ 0 ∷ 0 ∷ x) tally-alone,
+    )

@@ -92,13 +92,13 @@ module _ {K T : Type 0} (w : Kinds K T) where
   Lesser-second =
       (cells : ℕ) (j k : K) → 2 ≤ cells → before w j k ≡ true
       → Makes-place (run w cells (both k j))
-        (record { split = k; left = holds j; right = holds k; tally = w .joined (w .weighed k) (w .weighed j) })
+      (record { split = k; left = holds j; right = holds k; tally = w .joined (w .weighed k) (w .weighed j) })
 
   abbrev pub Greater-second : Type 0
   Greater-second =
       (cells : ℕ) (j k : K) → 2 ≤ cells → before w j k ≡ true
       → Makes-place (run w cells (both j k))
-        (record { split = k; left = holds j; right = holds k; tally = w .joined (w .weighed j) (w .weighed k) })
+      (record { split = k; left = holds j; right = holds k; tally = w .joined (w .weighed j) (w .weighed k) })
 
   -- Undecided, as a request is that seeks a key: the first carry decides it, the second moves it.
   abbrev pub Seen-undecided : Type 0

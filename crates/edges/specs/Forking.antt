@@ -57,15 +57,15 @@ forking =
     ∷ carry 1 ⟶ did Moved
     ∷ collect 1 ⟶ answer 5 Changed
     ∷ shows []
-      (place 2 (route 20 1 M) 5 []
-        (place 4 (route 10 1 M) 3 []
-          (key (route 5 1 M))
-          (place 5 (route 15 1 M) 2 []
-            (key (route 10 1 M))
-            (key (route 15 1 M))))
-        (place 3 (route 30 1 M) 2 []
-          (key (route 20 1 M))
-          (key (route 30 1 M))))
+    (place 2 (route 20 1 M) 5 []
+    (place 4 (route 10 1 M) 3 []
+    (key (route 5 1 M))
+    (place 5 (route 15 1 M) 2 []
+    (key (route 10 1 M))
+    (key (route 15 1 M))))
+    (place 3 (route 30 1 M) 2 []
+    (key (route 20 1 M))
+    (key (route 30 1 M))))
     ∷ submit 1 (Withdraw (route 10 1 M)) ⟶ number 6
     ∷ submit 2 (Count (route 7 1 M) (route 25 1 M)) ⟶ number 7
     ∷ submit 3 (Enter (route 16 1 M)) ⟶ number 8
@@ -90,27 +90,27 @@ forking =
     ∷ follow 3 8 ⟶ at 0 8
     ∷ carry 3 ⟶ did Moved
     ∷ shows []
-      (place 2 (route 20 1 M) 5 (counter 7 Between ∷ waiter 8 ∷ [])
-        (place 4 (route 10 1 M) 2 []
-          (key (route 5 1 M))
-          (place 5 (route 15 1 M) 1 (waiter 6 ∷ [])
-            (key (route 10 1 M))
-            (key (route 15 1 M))))
-        (place 3 (route 30 1 M) 2 []
-          (key (route 20 1 M))
-          (key (route 30 1 M))))
+    (place 2 (route 20 1 M) 5 (counter 7 Between ∷ waiter 8 ∷ [])
+    (place 4 (route 10 1 M) 2 []
+    (key (route 5 1 M))
+    (place 5 (route 15 1 M) 1 (waiter 6 ∷ [])
+    (key (route 10 1 M))
+    (key (route 15 1 M))))
+    (place 3 (route 30 1 M) 2 []
+    (key (route 20 1 M))
+    (key (route 30 1 M))))
     ∷ follow 2 7 ⟶ at 2 7
     ∷ carry 2 ⟶ did Moved
     ∷ shows []
-      (place 2 (route 20 1 M) 5 (waiter 8 ∷ [])
-        (place 4 (route 10 1 M) 2 (counter 7 From ∷ [])
-          (key (route 5 1 M))
-          (place 5 (route 15 1 M) 1 (waiter 6 ∷ [])
-            (key (route 10 1 M))
-            (key (route 15 1 M))))
-        (place 3 (route 30 1 M) 2 (counter 7 Upto ∷ [])
-          (key (route 20 1 M))
-          (key (route 30 1 M))))
+    (place 2 (route 20 1 M) 5 (waiter 8 ∷ [])
+    (place 4 (route 10 1 M) 2 (counter 7 From ∷ [])
+    (key (route 5 1 M))
+    (place 5 (route 15 1 M) 1 (waiter 6 ∷ [])
+    (key (route 10 1 M))
+    (key (route 15 1 M))))
+    (place 3 (route 30 1 M) 2 (counter 7 Upto ∷ [])
+    (key (route 20 1 M))
+    (key (route 30 1 M))))
     ∷ follow 3 8 ⟶ at 2 8
     ∷ carry 3 ⟶ did Moved
     ∷ follow 2 7 ⟶ at 3 7
@@ -127,16 +127,16 @@ forking =
     ∷ carry 3 ⟶ did Moved
     ∷ collect 3 ⟶ answer 8 Changed
     ∷ shows []
-      (place 2 (route 20 1 M) 5 []
-        (place 4 (route 10 1 M) 3 []
-          (key (route 5 1 M))
-          (place 5 (route 15 1 M) 2 []
-            nothing
-            (place 8 (route 16 1 M) 2 []
-              (key (route 15 1 M))
-              (key (route 16 1 M)))))
-        (place 3 (route 30 1 M) 2 []
-          (key (route 20 1 M))
-          (key (route 30 1 M))))
+    (place 2 (route 20 1 M) 5 []
+    (place 4 (route 10 1 M) 3 []
+    (key (route 5 1 M))
+    (place 5 (route 15 1 M) 2 []
+    nothing
+    (place 8 (route 16 1 M) 2 []
+    (key (route 15 1 M))
+    (key (route 16 1 M)))))
+    (place 3 (route 30 1 M) 2 []
+    (key (route 20 1 M))
+    (key (route 30 1 M))))
     ∷ reads 5 64 (Ok (5, route 5 1 M ∷ route 15 1 M ∷ route 16 1 M ∷ route 20 1 M ∷ route 30 1 M ∷ []))
     ∷ []

@@ -38,16 +38,16 @@ helping =
     ∷ carry 3 ⟶ refused NoNote
     ∷ follow 3 2 ⟶ refused Finished
     ∷ shows (waiter 3 ∷ [])
-      (place 2 (route 12 14 M) 2 []
-        (key (route 10 14 M))
-        (key (route 12 14 M)))
+    (place 2 (route 12 14 M) 2 []
+    (key (route 10 14 M))
+    (key (route 12 14 M)))
     ∷ collect 2 ⟶ answer 2 Changed
     ∷ follow 3 3 ⟶ at 0 3
     ∷ carry 3 ⟶ did Moved
     ∷ shows []
-      (place 2 (route 12 14 M) 2 (counter 3 Between ∷ [])
-        (key (route 10 14 M))
-        (key (route 12 14 M)))
+    (place 2 (route 12 14 M) 2 (counter 3 Between ∷ [])
+    (key (route 10 14 M))
+    (key (route 12 14 M)))
     ∷ follow 3 3 ⟶ at 2 3
     ∷ carry 3 ⟶ did Moved
     ∷ collect 3 ⟶ answer 3 (Counted 2)

@@ -43,7 +43,6 @@ pub data Line (K : Type 0) : Type 0 where
   shows : List Waiter → Drawing K → Line K
 
 infix 70 _⟶_
-
 -- the calls of a table
 abbrev pub calls-in : {K : Type 0} → List (Line K) → List (Call K)
 calls-in [] = []
@@ -74,7 +73,7 @@ module _ {K : Type 0} (w : Kinds K Number) where
   drawn s zero (leads p) = nothing
   drawn s (suc depth) (leads p) =
       elim (s .place p) [
-        None ↦ nothing
+        | None ↦ nothing
         | Some f ↦ place p (f .split) (f .tally .value) (s .queue p) (drawn s depth (f .left)) (drawn s depth (f .right))
       ]
 

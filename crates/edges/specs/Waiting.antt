@@ -38,9 +38,9 @@ waiting =
     ∷ follow 1 3 ⟶ at 0 3
     ∷ carry 1 ⟶ did Moved
     ∷ shows (waiter 4 ∷ waiter 5 ∷ waiter 6 ∷ [])
-      (place 2 (route 12 14 M) 3 (waiter 3 ∷ [])
-        (key (route 10 14 M))
-        (key (route 12 14 M)))
+    (place 2 (route 12 14 M) 3 (waiter 3 ∷ [])
+    (key (route 10 14 M))
+    (key (route 12 14 M)))
     ∷ follow 2 4 ⟶ at 0 4
     ∷ carry 2 ⟶ did Walking
     ∷ carry 2 ⟶ did Decided
@@ -53,9 +53,9 @@ waiting =
     ∷ follow 2 5 ⟶ at 0 5
     ∷ carry 2 ⟶ did Moved
     ∷ shows (waiter 6 ∷ [])
-      (place 2 (route 12 14 M) 2 (waiter 3 ∷ waiter 5 ∷ [])
-        (key (route 10 14 M))
-        (key (route 12 14 M)))
+    (place 2 (route 12 14 M) 2 (waiter 3 ∷ waiter 5 ∷ [])
+    (key (route 10 14 M))
+    (key (route 12 14 M)))
     ∷ follow 2 6 ⟶ at 0 6
     ∷ carry 2 ⟶ did Walking
     ∷ carry 2 ⟶ did Decided
@@ -65,19 +65,19 @@ waiting =
     ∷ follow 3 5 ⟶ at 2 3
     ∷ carry 3 ⟶ did Moved
     ∷ shows []
-      (place 2 (route 12 14 M) 2 (waiter 5 ∷ [])
-        (key (route 10 14 M))
-        (place 3 (route 20 30 M) 2 []
-          (key (route 12 14 M))
-          (key (route 20 30 M))))
+    (place 2 (route 12 14 M) 2 (waiter 5 ∷ [])
+    (key (route 10 14 M))
+    (place 3 (route 20 30 M) 2 []
+    (key (route 12 14 M))
+    (key (route 20 30 M))))
     ∷ follow 3 5 ⟶ at 2 5
     ∷ carry 3 ⟶ did Moved
     ∷ shows []
-      (place 2 (route 12 14 M) 2 []
-        (key (route 10 14 M))
-        (place 3 (route 20 30 M) 1 (waiter 5 ∷ [])
-          (key (route 12 14 M))
-          (key (route 20 30 M))))
+    (place 2 (route 12 14 M) 2 []
+    (key (route 10 14 M))
+    (place 3 (route 20 30 M) 1 (waiter 5 ∷ [])
+    (key (route 12 14 M))
+    (key (route 20 30 M))))
     ∷ submit 4 (LookUp (route 20 30 M)) ⟶ number 7
     ∷ follow 4 7 ⟶ at 0 7
     ∷ carry 4 ⟶ did Walking
@@ -89,11 +89,11 @@ waiting =
     ∷ follow 3 5 ⟶ at 3 5
     ∷ carry 3 ⟶ did Moved
     ∷ shows []
-      (place 2 (route 12 14 M) 2 []
-        (key (route 10 14 M))
-        (place 3 (route 20 30 M) 1 []
-          (key (route 12 14 M))
-          nothing))
+    (place 2 (route 12 14 M) 2 []
+    (key (route 10 14 M))
+    (place 3 (route 20 30 M) 1 []
+    (key (route 12 14 M))
+    nothing))
     ∷ collect 1 ⟶ answer 3 Changed
     ∷ collect 3 ⟶ answer 5 Changed
     ∷ reads 5 64 (Ok (2, route 10 14 M ∷ route 12 14 M ∷ []))

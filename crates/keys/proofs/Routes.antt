@@ -19,7 +19,7 @@ route-path a b p q r = λ i. record {
   exit = q i;
   class = r i;
   starts = isProp→PathP (λ j. Signal (p j)) (λ j. ×-prop le-prop le-prop) (a .starts) (b .starts) i;
-  ends = isProp→PathP (λ j. Signal (q j)) (λ j. ×-prop le-prop le-prop) (a .ends) (b .ends) i
+  ends = isProp→PathP (λ j. Signal (q j)) (λ j. ×-prop le-prop le-prop) (a .ends) (b .ends) i;
 }
 
 -- classes with one number are one class

@@ -18,7 +18,7 @@ use Rattle.keys.proofs.Names.{filled-le}
 pub section-path : (a b : Section) → a .bytes ≡ b .bytes → a ≡ b
 section-path a b p = λ i. record {
   bytes = p i;
-  named = isProp→PathP (λ j. is-section (p j) ≡ true) (λ j. Bool-set (is-section (p j)) true) (a .named) (b .named) i
+  named = isProp→PathP (λ j. is-section (p j) ≡ true) (λ j. Bool-set (is-section (p j)) true) (a .named) (b .named) i;
 }
 
 pub section-long : (a : Section) → length (a .bytes) ≡ 8

@@ -28,7 +28,7 @@ route-made f = record {
   exit = nearest-signal (f .exit);
   class = f .class;
   starts = omega arith;
-  ends = omega arith
+  ends = omega arith;
 }
 
 -- the route of these fields, or that one of them is out of range

@@ -4,10 +4,10 @@ ghost use Prim.Native.Nat.{_≤_};
 ghost use Rattle.std.specs.Of.String.{string-bytes};
 ghost use Rattle.std.specs.Vec.{made};
 ghost use Rattle.listing.specs.FaultTexts.{fault-line, told-at, place, found, sentence, fault-text};
+use super::wanted::Wanted;
 use archive::Fault;
 use archive::Layer;
 use keys::Refusal;
-use super::wanted::Wanted;
 use std::alloc::AllocError;
 use std::alloc::Global;
 use stored::from_four;
@@ -33,7 +33,12 @@ fn number_at(bytes: &[u8], offset: usize) -> usize
     if offset > bytes.len() - 4 {
         return 0;
     }
-    from_four(bytes[offset], bytes[offset + 1], bytes[offset + 2], bytes[offset + 3]) as usize
+    from_four(
+        bytes[offset],
+        bytes[offset + 1],
+        bytes[offset + 2],
+        bytes[offset + 3],
+    ) as usize
 }
 
 // What stands at an offset: the number in a header field, else the byte.
@@ -64,7 +69,13 @@ fn place(key: usize, tally: usize, bytes: &[u8], layer: Layer, offset: usize) ->
 }
 
 // The sentence under the fault.
-fn sentence(heap: Global, key: usize, tally: usize, bytes: &[u8], fault: Fault) -> Result<String, AllocError>
+fn sentence(
+    heap: Global,
+    key: usize,
+    tally: usize,
+    bytes: &[u8],
+    fault: Fault,
+) -> Result<String, AllocError>
     requires { ⌜ key ≤ 17 ⌝ ∗ ⌜ tally ≤ 17 ⌝ }
     ensures { λ r. ⌜ made r (λ s. string-bytes s ≡ sentence key tally (now (bytes .entry)) fault) ⌝ }
 {
@@ -76,7 +87,13 @@ fn sentence(heap: Global, key: usize, tally: usize, bytes: &[u8], fault: Fault) 
 }
 
 // A damaged file for people: the fault, and the sentence under it.
-pub fn fault_text(heap: Global, key: usize, tally: usize, bytes: &[u8], fault: Fault) -> Result<String, AllocError>
+pub fn fault_text(
+    heap: Global,
+    key: usize,
+    tally: usize,
+    bytes: &[u8],
+    fault: Fault,
+) -> Result<String, AllocError>
     requires { ⌜ key ≤ 17 ⌝ ∗ ⌜ tally ≤ 17 ⌝ }
     ensures { λ r. ⌜ made r (λ s. string-bytes s ≡ fault-text key tally (now (bytes .entry)) fault) ⌝ }
 {

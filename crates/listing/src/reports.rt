@@ -39,7 +39,10 @@ use tallies::Pair;
 use tallies::PairTally;
 
 // The report on a file of keys of the kind K and tallies of the kind T.
-pub fn report<K: PrintedKey, T: PrintedTally<K>>(heap: Global, bytes: &[u8]) -> Result<String, AllocError>
+pub fn report<K: PrintedKey, T: PrintedTally<K>>(
+    heap: Global,
+    bytes: &[u8],
+) -> Result<String, AllocError>
     ensures { λ r. ⌜ Printing string-bytes (K·StoredKey .form) (T·StoredTally .form) (K·PrintedKey .text) (T·PrintedTally .text) (now (bytes .entry)) r ⌝ }
 {
     match Archive::<K, T>::open(bytes) {
@@ -49,16 +52,30 @@ pub fn report<K: PrintedKey, T: PrintedTally<K>>(heap: Global, bytes: &[u8]) -> 
 }
 
 // The report on a file of keys and tallies of the kinds named; none where the tallies are not of such keys.
-pub fn list(heap: Global, keys: KeyKind, tallies: TallyKind, bytes: &[u8]) -> Option<Result<String, AllocError>>
+pub fn list(
+    heap: Global,
+    keys: KeyKind,
+    tallies: TallyKind,
+    bytes: &[u8],
+) -> Option<Result<String, AllocError>>
     ensures { λ r. ⌜ Listed string-bytes keys tallies (now (bytes .entry)) r ⌝ }
 {
     match (keys, tallies) {
         (KeyKind::Routes, TallyKind::Numbers) => Some(report::<Route, Number>(heap, bytes)),
         (KeyKind::Routes, TallyKind::ByClass) => Some(report::<Route, Classes>(heap, bytes)),
-        (KeyKind::Routes, TallyKind::NumbersByClass) => Some(report::<Route, Pair<Number, Classes>>(heap, bytes)),
+        (KeyKind::Routes, TallyKind::NumbersByClass) => Some(report::<Route, Pair<Number, Classes>>(
+            heap,
+            bytes,
+        )),
         (KeyKind::Sections, TallyKind::Numbers) => Some(report::<Section, Number>(heap, bytes)),
-        (KeyKind::AreaRoutes, TallyKind::Numbers) => Some(report::<Area<Route>, Number>(heap, bytes)),
-        (KeyKind::AreaSections, TallyKind::Numbers) => Some(report::<Area<Section>, Number>(heap, bytes)),
+        (KeyKind::AreaRoutes, TallyKind::Numbers) => Some(report::<Area<Route>, Number>(
+            heap,
+            bytes,
+        )),
+        (KeyKind::AreaSections, TallyKind::Numbers) => Some(report::<Area<Section>, Number>(
+            heap,
+            bytes,
+        )),
         (KeyKind::Sections, TallyKind::ByClass) => None,
         (KeyKind::Sections, TallyKind::NumbersByClass) => None,
         (KeyKind::AreaRoutes, TallyKind::ByClass) => None,

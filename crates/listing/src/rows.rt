@@ -40,7 +40,10 @@ fn request_text<K: PrintedKey>(heap: Global, request: Request<K>) -> Result<Stri
     }
 }
 
-fn answer_text<K: PrintedKey, T: PrintedTally<K>>(heap: Global, answer: Option<Answer<T>>) -> Result<String, AllocError>
+fn answer_text<K: PrintedKey, T: PrintedTally<K>>(
+    heap: Global,
+    answer: Option<Answer<T>>,
+) -> Result<String, AllocError>
     ensures { λ r. ⌜ made r (λ s. string-bytes s ≡ answer-text (T·PrintedTally .text) answer) ⌝ }
 {
     match answer {
@@ -58,7 +61,11 @@ fn answer_text<K: PrintedKey, T: PrintedTally<K>>(heap: Global, answer: Option<A
     }
 }
 
-fn row_line<K: PrintedKey, T: PrintedTally<K>>(heap: Global, number: usize, row: &Row<K, T>) -> Result<String, AllocError>
+fn row_line<K: PrintedKey, T: PrintedTally<K>>(
+    heap: Global,
+    number: usize,
+    row: &Row<K, T>,
+) -> Result<String, AllocError>
     ensures { λ r. ⌜ made r (λ s. string-bytes s ≡ row-line (K·PrintedKey .text) (T·PrintedTally .text) number (now (row .entry))) ⌝ }
 {
     let station = row.station().number();
@@ -74,7 +81,11 @@ fn last_line(heap: Global, count: usize) -> Result<String, AllocError>
 }
 
 // The line of a row that is given.
-fn given_line<K: PrintedKey, T: PrintedTally<K>>(heap: Global, number: usize, row: Result<Row<K, T>, Refusal>) -> Result<String, AllocError>
+fn given_line<K: PrintedKey, T: PrintedTally<K>>(
+    heap: Global,
+    number: usize,
+    row: Result<Row<K, T>, Refusal>,
+) -> Result<String, AllocError>
     ensures { λ r. ⌜ ((w : Row K T) → row ≡ Ok w → made r (λ s. string-bytes s ≡ row-line (K·PrintedKey .text) (T·PrintedTally .text) number w)) ⌝ }
 {
     match row {
@@ -84,7 +95,10 @@ fn given_line<K: PrintedKey, T: PrintedTally<K>>(heap: Global, number: usize, ro
 }
 
 // All rows of an accepted archive, one to a line, and their number.
-pub fn list_rows<K: PrintedKey, T: PrintedTally<K>>(heap: Global, archive: &Archive<K, T>) -> Result<String, AllocError>
+pub fn list_rows<K: PrintedKey, T: PrintedTally<K>>(
+    heap: Global,
+    archive: &Archive<K, T>,
+) -> Result<String, AllocError>
     ensures { λ r. ⌜ ((rows : List (Row K T)) → Opened (K·StoredKey .form) (T·StoredTally .form) (now (archive .entry)) rows → made r (λ s. string-bytes s ≡ listing-text (K·PrintedKey .text) (T·PrintedTally .text) rows)) ⌝ }
 {
     let mut written = String::new(heap);

@@ -51,7 +51,10 @@ pub impl PrintedTally<Route> for Classes as PrintedClasses {
     }
 }
 
-pub impl<K: Key, A: PrintedTally<K>, B: PrintedTally<K>> PrintedTally<K> for Pair<A, B> as PrintedPair {
+pub impl<K: Key, A: PrintedTally<K>, B: PrintedTally<K>> PrintedTally<K> for Pair<
+    A,
+    B,
+> as PrintedPair {
     ghost text = { pair-text (A·PrintedTally .text) (B·PrintedTally .text) };
 
     fn print(self, heap: Global) -> Result<String, AllocError> {

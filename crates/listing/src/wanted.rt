@@ -32,7 +32,8 @@ impl Wanted {
     {
         match self {
             Wanted::Kinds => "kinds of at most 16 bytes",
-            Wanted::Length => "the end of the file as the header tells it, and a header of 36 bytes",
+            Wanted::Length =>
+                "the end of the file as the header tells it, and a header of 36 bytes",
             Wanted::Edition => "edition 1",
             Wanted::FewRows => "at most 1024 rows",
             Wanted::KeyWidth => "the width of a key of the kind named",

@@ -96,7 +96,7 @@ module _ {K T : Type 0} (w : Kinds K T) (l : Lawful w) (rs : List (Request K)) (
       waits = λ j no. ap (λ v. stands j q || (v || waiting j b)) (ch .waits j no);
       mover = ⊎-elim (λ h. inl (or-right (stands t q) (waiting t c || waiting t b) (or-left (waiting t c) (waiting t b) h))) (λ h. inr h) (ch .mover);
       pends = λ j lo hi num. first-part w l (counted j) (new-counted j) (queue-share w rs j lo hi R q) (pending w rs j lo hi (left-of w R s) a) (pending w rs j lo hi (left-of w R s) c) (pending w rs j lo hi (right-of w R s) b) (ch .pends j lo hi num);
-      ways = λ k j o. ⊎-elim inl (λ h. inr (h .0, bool-map (before w k s) (ch .ways k j) (λ v. v) (h .1))) o
+      ways = λ k j o. ⊎-elim inl (λ h. inr (h .0, bool-map (before w k s) (ch .ways k j) (λ v. v) (h .1))) o;
     }
 
     in-right : (R : K → Bool) (now : ℕ) (i : ℕ) (s : K) (tally : T) (q : List Waiter) (a b c : Tree K T)
@@ -116,7 +116,7 @@ module _ {K T : Type 0} (w : Kinds K T) (l : Lawful w) (rs : List (Request K)) (
       waits = λ j no. ap (λ v. stands j q || (waiting j a || v)) (ch .waits j no);
       mover = ⊎-elim (λ h. inl (or-right (stands t q) (waiting t a || waiting t c) (or-right (waiting t a) (waiting t c) h))) (λ h. inr h) (ch .mover);
       pends = λ j lo hi num. second-part w l (counted j) (new-counted j) (queue-share w rs j lo hi R q) (pending w rs j lo hi (left-of w R s) a) (pending w rs j lo hi (right-of w R s) b) (pending w rs j lo hi (right-of w R s) c) (ch .pends j lo hi num);
-      ways = λ k j o. ⊎-elim inl (λ h. inr (h .0, bool-map (before w k s) (λ v. v) (ch .ways k j) (h .1))) o
+      ways = λ k j o. ⊎-elim inl (λ h. inr (h .0, bool-map (before w k s) (λ v. v) (ch .ways k j) (h .1))) o;
     }
 
     -- a change that is right at the place itself is right in the whole tree
@@ -128,6 +128,7 @@ module _ {K T : Type 0} (w : Kinds K T) (l : Lawful w) (rs : List (Request K)) (
       where
         room : below q now ≤ suc (length rs)
         room = let f = lined-below i q now (gd .0 .lined) in omega (arith, f .1)
+
         go : (inside p a ≡ true → Changed Done t p (left-of w R s) (below q now) a (alter p g a)) → (inside p b ≡ true → Changed Done t p (right-of w R s) (below q now) b (alter p g b))
             → (c : Bool) → eqb i p ≡ c → Changed Done t p R now (node i s tally q a b) (alter p g (node i s tally q a b))
         go one two true f =
@@ -138,6 +139,6 @@ module _ {K T : Type 0} (w : Kinds K T) (l : Lawful w) (rs : List (Request K)) (
             inside-cases w rs p i s tally q a b e
             (λ h. let z : eqb i p ≡ true = grind arith in absurd (true≢false (sym z ∙ f)))
             (λ h. let lone : inside p b ≡ false = false-unless (inside p b) (λ k. makers-apart w rs R s p (inside-maker w rs (left-of w R s) (below q now) a p (gd .2) h) (inside-maker w rs (right-of w R s) (below q now) b p (gd .3) k)) in
-                  rw (f, alter-outside p g b lone) (in-left R now i s tally q a b (alter p g a) gd d (inside-over w rs (left-of w R s) (below q now) a i p (gd .2) (gd .1 .0) h) (one h)))
+            rw (f, alter-outside p g b lone) (in-left R now i s tally q a b (alter p g a) gd d (inside-over w rs (left-of w R s) (below q now) a i p (gd .2) (gd .1 .0) h) (one h)))
             (λ h. let lone : inside p a ≡ false = false-unless (inside p a) (λ k. makers-apart w rs R s p (inside-maker w rs (left-of w R s) (below q now) a p (gd .2) k) (inside-maker w rs (right-of w R s) (below q now) b p (gd .3) h)) in
-                  rw (f, alter-outside p g a lone) (in-right R now i s tally q a b (alter p g b) gd d (inside-over w rs (right-of w R s) (below q now) b i p (gd .3) (gd .1 .1) h) (two h)))
+            rw (f, alter-outside p g a lone) (in-right R now i s tally q a b (alter p g b) gd d (inside-over w rs (right-of w R s) (below q now) b i p (gd .3) (gd .1 .1) h) (two h)))

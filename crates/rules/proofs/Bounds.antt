@@ -24,11 +24,11 @@ sum-fall f g zero r d lo hi h u = absurd (omega arith)
 sum-fall f g (suc t) r d lo hi h u =
     ⊎-elim
     (λ e. let last : g (suc t) + d ≤ f (suc t) = rw (← e) u in
-          let rest = sum-mono f g t (λ i l m. h i l (omega arith) (λ same. absurd (omega arith))) in
-          omega arith)
+    let rest = sum-mono f g t (λ i l m. h i l (omega arith) (λ same. absurd (omega arith))) in
+    omega arith)
     (λ e. let ih = sum-fall f g t r d lo (omega arith) (λ i l m. h i l (omega arith)) u in
-          let last = h (suc t) (omega arith) (omega arith) (λ same. e (sym same)) in
-          omega arith)
+    let last = h (suc t) (omega arith) (omega arith) (λ same. e (sym same)) in
+    omega arith)
     (cases-eq r (suc t))
 
 -- one term is at most the sum

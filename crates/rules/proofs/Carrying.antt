@@ -56,10 +56,12 @@ module _ {K T : Type 0} (w : Kinds K T) (step : Stepper w) (rs : List (Request K
 
   decides : (old : Note) (t : ℕ) (r : Request K) (k : K) (d : Bool) → time ≤ t → numbered (s .requests) t ≡ Some r → sought r ≡ Some k → s .decision t ≡ None
       → d ≡ was w rs t k → Seeks s old t → Carried-well old (with-note (with-decision s t d) n note.None)
-  decides old t r k d le num key none right seeks =
-      ( x , time
-      , drops (with-decision s t d) x time (step .decides rs x time s h t r k d (asks t (Some r) num) key right)
-      , decided t d refl refl refl (waits-on t r k le num key none) seeks)
+  decides old t r k d le num key none right seeks = (
+    x,
+    time,
+    drops (with-decision s t d) x time (step .decides rs x time s h t r k d (asks t (Some r) num) key right),
+    decided t d refl refl refl (waits-on t r k le num key none) seeks,
+  )
 
   -- a slot read for request t
   reads : (old : Note) (t : ℕ) (r : Request K) (k : K) → time ≤ t → numbered (s .requests) t ≡ Some r → sought r ≡ Some k → s .decision t ≡ None → Seeks s old t
@@ -67,22 +69,30 @@ module _ {K T : Type 0} (w : Kinds K T) (step : Stepper w) (rs : List (Request K
       → ((f : ℕ) → slot ≡ leads f → Walks w rs t f time x × Nears s old t f) → Carried-well old (read-slot w s n t k slot .1)
   reads old t r k le num key none seeks empty one two three = decides old t r k false le num key none (sym (one refl)) seeks
   reads old t r k le num key none seeks (holds j) one two three = decides old t r k (same w j k) le num key none (two j refl) seeks
-  reads old t r k le num key none seeks (leads f) one two three =
-      ( x , time
-      , step .desks rs x time s h n _ (λ u p e z. let a : t ≡ u = cc in let b : f ≡ p = cc in rw (← a, ← b) (three f refl .0))
-      , walked t f refl refl refl (waits-on t r k le num key none) (three f refl .1))
+  reads old t r k le num key none seeks (leads f) one two three = (
+    x,
+    time,
+    step .desks rs x time s h n _ (λ u p e z. let a : t ≡ u = cc in let b : f ≡ p = cc in rw (← a, ← b) (three f refl .0)),
+    walked t f refl refl refl (waits-on t r k le num key none) (three f refl .1),
+  )
 
   -- the head e of p's queue moves
   head-moves : (t p : ℕ) (e : Waiter) (q : List Waiter) (r : Request K) → s .queue p ≡ e ∷ q → e .number ≡ t → numbered (s .requests) (e .number) ≡ Some r
       → (p ≡ 0 → (k : K) → sought r ≡ Some k → isSome (s .decision (e .number)) ≡ true) → Carried-well (note.Saw t p) (with-note (moves.moved w s p e r) n note.None)
   head-moves t zero e q r queue is num ready =
-      let m = step .moves-gate rs x time s h e q r queue (asks (e .number) (Some r) num) (ready refl) in
-      ( m .0 , suc time , drops (moves.moved w s 0 e r) (m .0) (suc time) (m .1)
-      , moved 0 (e .number) (moves.moved w s 0 e r) refl (ap (λ i. note.Saw i 0) (sym is)) (m .2))
+      let m = step .moves-gate rs x time s h e q r queue (asks (e .number) (Some r) num) (ready refl) in (
+        m .0,
+        suc time,
+        drops (moves.moved w s 0 e r) (m .0) (suc time) (m .1),
+        moved 0 (e .number) (moves.moved w s 0 e r) refl (ap (λ i. note.Saw i 0) (sym is)) (m .2),
+      )
   head-moves t (suc p) e q r queue is num ready =
-      let m = step .moves-tree rs x time s h p e q r queue (asks (e .number) (Some r) num) in
-      ( m .0 , time , drops (moves.moved w s (suc p) e r) (m .0) time (m .1)
-      , moved (suc p) (e .number) (moves.moved w s (suc p) e r) refl (ap (λ i. note.Saw i (suc p)) (sym is)) (m .2))
+      let m = step .moves-tree rs x time s h p e q r queue (asks (e .number) (Some r) num) in (
+        m .0,
+        time,
+        drops (moves.moved w s (suc p) e r) (m .0) time (m .1),
+        moved (suc p) (e .number) (moves.moved w s (suc p) e r) refl (ap (λ i. note.Saw i (suc p)) (sym is)) (m .2),
+      )
 
   gates : (t : ℕ) (e : Waiter) (q : List Waiter) (r : Request K) → s .queue 0 ≡ e ∷ q → e .number ≡ t → numbered (s .requests) (e .number) ≡ Some r
       → (k : Option K) (d : Option Bool) → sought r ≡ k → s .decision (e .number) ≡ d → Carried-well (note.Saw t 0) (at-gate w s n e r k d .1)
@@ -97,7 +107,7 @@ module _ {K T : Type 0} (w : Kinds K T) (step : Stepper w) (rs : List (Request K
       (λ u. ap (λ i. was w rs i k) first ∙ right .0 u)
       (λ j u. right .1 j u ∙ ap (λ i. was w rs i k) (sym first))
       (λ f u. let v = right .2 f u in
-          (subst (λ i. Walks w rs i f time x) (sym first) v, (sym is, walk-place w rs s x time h time f v .0)))
+      (subst (λ i. Walks w rs i f time x) (sym first) v, (sym is, walk-place w rs s x time h time f v .0)))
 
   heads-act : (t p : ℕ) (e : Waiter) (q : List Waiter) (r : Request K) → s .queue p ≡ e ∷ q → e .number ≡ t → numbered (s .requests) (e .number) ≡ Some r
       → Carried-well (note.Saw t p) (at-head w s n p e r .1)
@@ -113,6 +123,7 @@ module _ {K T : Type 0} (w : Kinds K T) (step : Stepper w) (rs : List (Request K
           → Carried-well (note.Saw t p) (elim o as (λ _. Carried × State K T) [ None ↦ late w s n | Some r ↦ at-head w s n p e r ] .1)
       by None num is = lapses (note.Saw t p) (λ u. num)
       by (Some r) num is = heads-act t p e q r queue is (ap (numbered (s .requests)) is ∙ num)
+
       go : (b : Bool) → eqb (e .number) t ≡ b → Carried-well (note.Saw t p) (saw w s n t p (e ∷ q) .1)
       go true f = rw f (by (numbered (s .requests) t) refl (eqb-true (e .number) t f))
       go false f = rw f (lapses (note.Saw t p) (λ u. absurd (true≢false (sym u ∙ ap (heads t) queue ∙ f))))
@@ -124,8 +135,10 @@ module _ {K T : Type 0} (w : Kinds K T) (step : Stepper w) (rs : List (Request K
     where
       num : numbered (s .requests) t ≡ Some (v .request)
       num = ap (λ u. numbered u t) (h .requests) ∙ v .asked
+
       here : time ≤ t
       here = let e = v .head in omega arith
+
       go : (d : Option Bool) → last-word w rs (v .key) (s .queue p) ≡ d → Carried-well (note.Walk t p) (look w s n t p (v .key) d .1)
       go (Some d) e = decides (note.Walk t p) t (v .request) (v .key) d here num (v .seeks) none (step .reads-walk rs x time s h t p v .0 d e) refl
       go None e =
@@ -142,6 +155,7 @@ module _ {K T : Type 0} (w : Kinds K T) (step : Stepper w) (rs : List (Request K
     where
       v : Walks w rs t p time x
       v = h .walks n t p desk dec
+
       sought-key : elim (numbered (s .requests) t) [ None ↦ None | Some r ↦ sought r ] ≡ Some (v .key)
       sought-key = ap (λ o. elim o [ None ↦ None | Some r ↦ sought r ]) (ap (λ u. numbered u t) (h .requests) ∙ v .asked) ∙ v .seeks
 

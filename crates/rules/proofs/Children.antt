@@ -97,31 +97,40 @@ module _ {K T : Type 0} (w : Kinds K T) (l : Lawful w) (rs : List (Request K)) (
 
     pub child-entered : (x : Tree K T) → Good w rs R t x → Good w rs R u (enter-child w t k x)
     child-entered bare g = (here, λ x r. was-entered x r ∙ ap (λ v. same w x k || v) (g x r) ∙ or-false (same w x k))
-    child-entered (leaf j) g =
-        ( record {
-            maker = k;
-            made = e;
-            maker-here = here;
-            split-here = greater-here;
-            weighs = ap (λ v. w .joined v (w .weighed k)) (sym alone) ∙ sym tally-entered;
-            lined = h;
-            fits = tt;
-            still = λ i lo hi. absurd (omega arith)
-          }
-        , (tt, tt)
-        , ( both-true lesser-here (lesser-first w l j k differ)
-          , λ x r. was-both x (left-in w R (greater w j k) x r) ∙ left-is-lesser w l j k x (left-side w R (greater w j k) x r))
-        , ( both-true greater-here (l .reflexive (greater w j k))
-          , λ x r. was-both x (right-in w R (greater w j k) x r) ∙ right-is-greater w l j k x differ (right-side w R (greater w j k) x r)))
+    child-entered (leaf j) g = (
+      record {
+        maker = k;
+        made = e;
+        maker-here = here;
+        split-here = greater-here;
+        weighs = ap (λ v. w .joined v (w .weighed k)) (sym alone) ∙ sym tally-entered;
+        lined = h;
+        fits = tt;
+        still = λ i lo hi. absurd (omega arith);
+      },
+      (tt, tt),
+      (
+        both-true lesser-here (lesser-first w l j k differ),
+        λ x r. was-both x (left-in w R (greater w j k) x r) ∙ left-is-lesser w l j k x (left-side w R (greater w j k) x r),
+      ),
+      (
+        both-true greater-here (l .reflexive (greater w j k)),
+        λ x r. was-both x (right-in w R (greater w j k) x r) ∙ right-is-greater w l j k x differ (right-side w R (greater w j k) x r),
+      ),
+    )
       where
         differ : same w k j ≡ false
         differ = sym (g .1 k here) ∙ absent
+
         alone : weight-before w R rs t ≡ w .weighed j
         alone = weights.weight-one w l R j (set-before w rs t) (ascends-at w l rs (pred t)) (g .0) (λ x r. g .1 x r)
+
         was-both : (x : K) → R x ≡ true → was w rs u x ≡ (same w x k || same w x j)
         was-both x r = was-entered x r ∙ ap (λ v. same w x k || v) (g .1 x r)
+
         greater-here : R (greater w j k) ≡ true
         greater-here = bool-case (w .le j k) (λ v. R (cond v k j) ≡ true) here (g .0)
+
         lesser-here : R (lesser w j k) ≡ true
         lesser-here = bool-case (w .le j k) (λ v. R (cond v j k) ≡ true) (g .0) here
     child-entered (node f s tally q a b) g =

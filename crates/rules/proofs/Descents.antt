@@ -157,6 +157,7 @@ module _ {K T : Type 0} (w : Kinds K T) (l : Lawful w) (s : State K T) (x : Tree
           withdraw-leaves w l s p e q line R now sp tally a b n g d k (num ∙ ap Some is) (fit .0) (fit .1) (ap is-present (decision-is k (ap sought is)) ∙ fit .1)
       by (LookUp k) is g d fit = absurd fit
       by (Count lo hi) is g d fit = count-leaves w l s p e q line R now sp tally a b n g d lo hi (num ∙ ap Some is) fit
+
       at : Good w (s .requests) R now (node (suc p) sp tally (e ∷ q) a b) → Drawn (s .place) (s .queue) (node (suc p) sp tally (e ∷ q) a b) → Leaves w l s p e q line s′ r R now (node (suc p) sp tally (e ∷ q) a b) (moved-node w r (node (suc p) sp tally (e ∷ q) a b))
       at g d = by r refl g d (subst (Waiter-fits w (s .requests) R t (e .mode)) num (g .0 .fits .0))
 
@@ -182,12 +183,12 @@ module _ {K T : Type 0} (w : Kinds K T) (l : Lawful w) (s : State K T) (x : Tree
   bears i r₁ asked lt out =
       ⊎-elim
       (λ same.
-        let one : Some r ≡ Some r₁ = sym num ∙ ap (numbered (s .requests)) (sym same) ∙ asked in
-        let is : r ≡ r₁ = cc in
-        ⊎-elim
-        (λ waits. absurd (true≢false (sym waits ∙ ap (λ j. waiting j y) (sym same) ∙ out)))
-        (λ done. subst (λ j. Bears w (s .requests) s′ j r₁) (sym same) (subst (Bears w (s .requests) s′ t) is (finishes-bears w s′ (s .requests) t r (tame .rest .requests) done)))
-        (change .mover))
+      let one : Some r ≡ Some r₁ = sym num ∙ ap (numbered (s .requests)) (sym same) ∙ asked in
+      let is : r ≡ r₁ = cc in
+      ⊎-elim
+      (λ waits. absurd (true≢false (sym waits ∙ ap (λ j. waiting j y) (sym same) ∙ out)))
+      (λ done. subst (λ j. Bears w (s .requests) s′ j r₁) (sym same) (subst (Bears w (s .requests) s′ t) is (finishes-bears w s′ (s .requests) t r (tame .rest .requests) done)))
+      (change .mover))
       (λ differs. bears-kept w (s .requests) s s′ i r₁ (tame .answers i (apart-eqb i t differs)) (h .answers i r₁ asked lt (sym (change .waits i differs) ∙ out)))
       (cases-eq i t)
 
@@ -208,7 +209,7 @@ module _ {K T : Type 0} (w : Kinds K T) (l : Lawful w) (s : State K T) (x : Tree
     uncounted = λ i late. tame .counted i (apart-eqb i t (λ same. omega (arith, passed))) ∙ h .uncounted i late;
     walks = λ n i p₁ noted undone.
         let old = h .walks n i p₁ (sym (ap (λ f. f n .note) (tame .rest .desk)) ∙ noted) (sym (ap (λ f. f i) (tame .rest .decision)) ∙ undone) in
-        record { head = old .head; request = old .request; key = old .key; asked = old .asked; seeks = old .seeks; way = change .ways (old .key) p₁ (old .way) }
+        record { head = old .head; request = old .request; key = old .key; asked = old .asked; seeks = old .seeks; way = change .ways (old .key) p₁ (old .way) };
   }
 
   moved-by : Moved-by s s′ x y time time (suc p) t
@@ -220,7 +221,7 @@ module _ {K T : Type 0} (w : Kinds K T) (l : Lawful w) (s : State K T) (x : Tree
         let same = put-other (s .queue) (suc p) (behind (s .queue (suc p))) i (apart-eqb i (suc p) no) in
         ap (heads r₁) (grown .1 ∙ ap (λ g. g ++ grown .0) same) ∙ heads-grown r₁ (s .queue i) (grown .0) on;
     waits = change .waits;
-    down = inl (refl, falls-moved w (s .requests) (s .place) (s .queue) (suc p) r e q line (Everywhere w (s .requests)) time x (h .good) (h .drawn) hangs)
+    down = inl (refl, falls-moved w (s .requests) (s .place) (s .queue) (suc p) r e q line (Everywhere w (s .requests)) time x (h .good) (h .drawn) hangs);
   }
 
 -- a request moves at a place of the tree

@@ -12,8 +12,9 @@ pub register-facts : {K T : Type 0} (w : Kinds K T) (l : Lawful w) → Register-
 register-facts w l cells cs =
     let s = run w cells cs in
     let held = run-holds w (stepper w l) cells cs in
-    let own = own-requests w s held in
-    ( queues-rise w (s .requests) s (own .0) (own .1) (own .2)
-    , places-older w (s .requests) s (own .0) (own .1) (own .2)
-    , one-place w s (own .0) (own .1) (own .2)
-    , finished-stays w l s held)
+    let own = own-requests w s held in (
+      queues-rise w (s .requests) s (own .0) (own .1) (own .2),
+      places-older w (s .requests) s (own .0) (own .1) (own .2),
+      one-place w s (own .0) (own .1) (own .2),
+      finished-stays w l s held,
+    )

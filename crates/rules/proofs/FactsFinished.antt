@@ -62,9 +62,10 @@ module _ {K T : Type 0} (w : Kinds K T) (rs : List (Request K)) (s : State K T) 
   module _ (t : ℕ) (out : Out t x time) where
     -- a move is another's
     moved-out : (s′ : State K T) (y : Tree K T) (time′ p m : ℕ) → Moved-by s s′ x y time time′ p m → Out t y time′
-    moved-out s′ y time′ p m by =
-        ( ⊎-elim (λ d. omega (arith, d .0, out .0)) (λ d. omega (arith, d .2, out .0)) (by .down)
-        , by .waits t (λ same. out-nowhere t out p (ap (λ j. stands j (s .queue p)) same ∙ heads-stands m (s .queue p) (by .headed))) ∙ out .1)
+    moved-out s′ y time′ p m by = (
+      ⊎-elim (λ d. omega (arith, d .0, out .0)) (λ d. omega (arith, d .2, out .0)) (by .down),
+      by .waits t (λ same. out-nowhere t out p (ap (λ j. stands j (s .queue p)) same ∙ heads-stands m (s .queue p) (by .headed))) ∙ out .1,
+    )
 
     same-out : (y : Tree K T) (time′ : ℕ) → y ≡ x → time′ ≡ time → Out t y time′
     same-out y time′ e f = (omega (arith, out .0), ap (waiting t) e ∙ out .1)
@@ -101,9 +102,10 @@ module _ {K T : Type 0} (w : Kinds K T) (l : Lawful w) where
       → (numbered (s′ .requests) t ≡ Some r) × (set-before w (s′ .requests) t ≡ set-before w (s .requests) t)
   asks-same s s′ (inl e) t r num = (ap (λ rs. numbered rs t) e ∙ num, ap (λ rs. set-before w rs t) e)
   asks-same s s′ (inr e) t r num =
-      let known = numbered-within (s .requests) t r num in
-      ( ap (λ rs. numbered rs t) (e .1) ∙ numbered-append (s .requests) (e .0) t (known .1) ∙ num
-      , ap (λ rs. set-before w rs t) (e .1) ∙ before-append w l (s .requests) (e .0) t (omega (arith, known .1)))
+      let known = numbered-within (s .requests) t r num in (
+        ap (λ rs. numbered rs t) (e .1) ∙ numbered-append (s .requests) (e .0) t (known .1) ∙ num,
+        ap (λ rs. set-before w rs t) (e .1) ∙ before-append w l (s .requests) (e .0) t (omega (arith, known .1)),
+      )
 
   pub finished-stays : (s : State K T) → Held w s → Finished-stays w s
   finished-stays s held c t r num done =
@@ -115,8 +117,9 @@ module _ {K T : Type 0} (w : Kinds K T) (l : Lawful w) where
       let still = doing-out w (s .requests) s (own .0) (own .1) (own .2) t out s′ (does .1) (does .2) (caller c) (does .4) in
       let done′ = out-finished w (does .0) s′ (does .1) (does .2) (does .3) t still in
       let new = own-requests w s′ (does .0, does .1, does .2, does .3) in
-      let same = asks-same s s′ (doing-asks s s′ (own .0) (does .1) (own .1) (does .2) (caller c) (does .4)) t r num in
-      ( done′
-      , answers-plain w l s′ (new .0) (new .1) (new .2) t r (same .0) done′
-        ∙ ap (λ ks. Some (answered w r ks)) (same .1)
-        ∙ sym (answers-plain w l s (own .0) (own .1) (own .2) t r num done))
+      let same = asks-same s s′ (doing-asks s s′ (own .0) (does .1) (own .1) (does .2) (caller c) (does .4)) t r num in (
+        done′,
+        answers-plain w l s′ (new .0) (new .1) (new .2) t r (same .0) done′
+            ∙ ap (λ ks. Some (answered w r ks)) (same .1)
+            ∙ sym (answers-plain w l s (own .0) (own .1) (own .2) t r num done),
+      )

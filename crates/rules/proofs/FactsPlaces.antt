@@ -69,7 +69,7 @@ module _ {K T : Type 0} (w : Kinds K T) (s : State K T) (x : Tree K T) (time : â
         end = goes .0;
         asked-for = known .1;
         way = goes .2;
-        passed = waiting-before w rs (Everywhere w rs) time x t (held .good) in-tree
+        passed = waiting-before w rs (Everywhere w rs) time x t (held .good) in-tree;
       })
 
   -- where a request waits by one key it waits at one place

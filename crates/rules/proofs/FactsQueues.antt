@@ -56,8 +56,8 @@ module _ {K T : Type 0} (w : Kinds K T) (rs : List (Request K)) where
       let two = drawn-over pl qu (right-of w R s) (below r now) b p q f side (g .3) (d .3) in
       inside-cases w rs p i s t r a b e
       (λ u. let both : Some f ≡ Some (drawn-place s t a b) = sym made ∙ ap pl u ∙ d .0 in
-            let same : f ≡ drawn-place s t a b = cc in
-            subst (λ j. j < q) (sym u) (here side (ap (λ v. slot-on v side) (sym same) ∙ to)))
+      let same : f ≡ drawn-place s t a b = cc in
+      subst (λ j. j < q) (sym u) (here side (ap (λ v. slot-on v side) (sym same) ∙ to)))
       (λ u. one u made to) (λ u. two u made to)
     where
       here : (side : Side) → slot-on (drawn-place s t a b) side ≡ leads q → i < q
@@ -70,7 +70,7 @@ module _ {K T : Type 0} (w : Kinds K T) (rs : List (Request K)) where
     queues-rise (suc p) =
         ⊎-elim
         (λ u. let d = drawn-lined w rs (s .place) (s .queue) (Everywhere w rs) time x (suc p) (h .good) (h .drawn) u in
-              lined-rises (suc p) (s .queue (suc p)) (d .0) (d .1))
+        lined-rises (suc p) (s .queue (suc p)) (d .0) (d .1))
         (λ u. subst Rises (sym (h .others (suc p) u .1 (omega arith))) tt)
         (cases-bool (inside (suc p) x))
 
@@ -79,7 +79,7 @@ module _ {K T : Type 0} (w : Kinds K T) (rs : List (Request K)) where
     older-than-queue (suc p) =
         ⊎-elim
         (λ u. let d = drawn-lined w rs (s .place) (s .queue) (Everywhere w rs) time x (suc p) (h .good) (h .drawn) u in
-              lined-over (suc p) (suc p) (s .queue (suc p)) (d .0) (omega arith) (d .1))
+        lined-over (suc p) (suc p) (s .queue (suc p)) (d .0) (omega arith) (d .1))
         (λ u. subst (Below-all (suc p)) (sym (h .others (suc p) u .1 (omega arith))) tt)
         (cases-bool (inside (suc p) x))
 
@@ -98,9 +98,10 @@ module _ {K T : Type 0} (w : Kinds K T) (rs : List (Request K)) where
         drawn-over (s .place) (s .queue) (Everywhere w rs) time x p q f side (h .good) (h .drawn) (made-inside p f made) made to
 
     gate-oldest : Gate-oldest s
-    gate-oldest =
-        ( (λ p f made. inside-over w rs (Everywhere w rs) time x 0 p (h .good) (h .over) (made-inside p f made))
-        , λ q to. over-leads 0 q x (h .over) (sym (h .rooted) ∙ to))
+    gate-oldest = (
+      (λ p f made. inside-over w rs (Everywhere w rs) time x 0 p (h .good) (h .over) (made-inside p f made)),
+      λ q to. over-leads 0 q x (h .over) (sym (h .rooted) ∙ to),
+    )
 
     pub places-older : Places-older s
     places-older = (older-than-queue, older-than-below, gate-oldest)

@@ -94,13 +94,17 @@ module _ {K T : Type 0} (w : Kinds K T) (rs : List (Request K)) where
         let two = waits-on-way (right-of w R s) (below q now) b i p r num (g .3) (d .3) in
         inside-cases w rs p f s t q a b e
         (λ u. let v = waits-here R q i r num (g .0 .fits) (ap (stands i) (sym (d .1)) ∙ ap (λ j. stands i (queue j)) (sym u) ∙ h) in
-              (v .0, v .1, or-left (eqb p f) _ (eq-eqb p f u)))
-        (λ u. let v = one u h in
-              (v .0, left-in w R s (goes-by (v .0) r) (v .1),
-                or-right (eqb p f) _ (ap (λ c. cond c (on-way (goes-by (v .0) r) p a) (on-way (goes-by (v .0) r) p b)) (left-side w R s (goes-by (v .0) r) (v .1)) ∙ v .2)))
-        (λ u. let v = two u h in
-              (v .0, right-in w R s (goes-by (v .0) r) (v .1),
-                or-right (eqb p f) _ (ap (λ c. cond (not c) (on-way (goes-by (v .0) r) p a) (on-way (goes-by (v .0) r) p b)) (right-side w R s (goes-by (v .0) r) (v .1)) ∙ v .2)))
+        (v .0, v .1, or-left (eqb p f) _ (eq-eqb p f u)))
+        (λ u. let v = one u h in (
+          v .0,
+          left-in w R s (goes-by (v .0) r) (v .1),
+          or-right (eqb p f) _ (ap (λ c. cond c (on-way (goes-by (v .0) r) p a) (on-way (goes-by (v .0) r) p b)) (left-side w R s (goes-by (v .0) r) (v .1)) ∙ v .2),
+        ))
+        (λ u. let v = two u h in (
+          v .0,
+          right-in w R s (goes-by (v .0) r) (v .1),
+          or-right (eqb p f) _ (ap (λ c. cond (not c) (on-way (goes-by (v .0) r) p a) (on-way (goes-by (v .0) r) p b)) (right-side w R s (goes-by (v .0) r) (v .1)) ∙ v .2),
+        ))
 
     -- and on the way of one key at one place only
     pub way-once : (R : K → Bool) (now : ℕ) (x : Tree K T) (i : ℕ) (k : K) (p q : ℕ) → Good w rs R now x → Drawn place queue x
@@ -112,19 +116,21 @@ module _ {K T : Type 0} (w : Kinds K T) (rs : List (Request K)) where
         let two = way-once (right-of w R s) (below l now) b i k p q (g .3) (d .3) in
         or-cases (eqb p m) (cond (before w k s) (on-way k p a) (on-way k p b)) e
         (λ u. or-cases (eqb q m) (cond (before w k s) (on-way k q a) (on-way k q b)) f
-          (λ v. eqb-eq p m u ∙ sym (eqb-eq q m v))
-          (λ v. absurd (not-both p u hp (lower q hq (before w k s) v))))
+        (λ v. eqb-eq p m u ∙ sym (eqb-eq q m v))
+        (λ v. absurd (not-both p u hp (lower q hq (before w k s) v))))
         (λ u. or-cases (eqb q m) (cond (before w k s) (on-way k q a) (on-way k q b)) f
-          (λ v. absurd (not-both q v hq (lower p hp (before w k s) u)))
-          (λ v. same one two (before w k s) u v))
+        (λ v. absurd (not-both q v hq (lower p hp (before w k s) u)))
+        (λ v. same one two (before w k s) u v))
       where
         -- who waits below does not wait here
         lower : (j : ℕ) → stands i (queue j) ≡ true → (c : Bool) → cond c (on-way k j a) (on-way k j b) ≡ true → (waiting i a || waiting i b) ≡ true
         lower j h true u = or-left (waiting i a) (waiting i b) (drawn-waits w rs place queue a i j (d .2) (on-way-inside k j a u) h)
         lower j h false u = or-right (waiting i a) (waiting i b) (drawn-waits w rs place queue b i j (d .3) (on-way-inside k j b u) h)
+
         not-both : (j : ℕ) → eqb j m ≡ true → stands i (queue j) ≡ true → (waiting i a || waiting i b) ≡ true → ⊥
         not-both j u h v =
             true≢false (sym h ∙ ap (λ n. stands i (queue n)) (eqb-eq j m u) ∙ ap (stands i) (d .1) ∙ not-above w rs R now m s t l a b i g v)
+
         same : (on-way k p a ≡ true → on-way k q a ≡ true → stands i (queue p) ≡ true → stands i (queue q) ≡ true → p ≡ q)
             → (on-way k p b ≡ true → on-way k q b ≡ true → stands i (queue p) ≡ true → stands i (queue q) ≡ true → p ≡ q)
             → (c : Bool) → cond c (on-way k p a) (on-way k p b) ≡ true → cond c (on-way k q a) (on-way k q b) ≡ true → p ≡ q

@@ -101,7 +101,7 @@ module _ {K T : Type 0} where
     where
       go : reach i c + nodes-below i a ≤ reach i a + nodes-below i c → reach i d + nodes-below i b ≤ reach i b + nodes-below i d → (v : Bool)
           → cond v (one-if (ltb p i) + (nodes-below i c + nodes-below i d)) (reach i c + reach i d) + (one-if (ltb p i) + (nodes-below i a + nodes-below i b))
-            ≤ cond v (one-if (ltb p i) + (nodes-below i a + nodes-below i b)) (reach i a + reach i b) + (one-if (ltb p i) + (nodes-below i c + nodes-below i d))
+          ≤ cond v (one-if (ltb p i) + (nodes-below i a + nodes-below i b)) (reach i a + reach i b) + (one-if (ltb p i) + (nodes-below i c + nodes-below i d))
       go f h true = omega arith
       go f h false = omega arith
 
@@ -113,13 +113,15 @@ module _ {K T : Type 0} (w : Kinds K T) (rs : List (Request K)) where
   node-falls R now p s t e q a b c d g one two = record {
     waits = or-left (stands (e .number) (e ∷ q)) (waiting (e .number) a || waiting (e .number) b) here;
     others = stays-node (e .number) p s t (e ∷ q) q a b c d (λ i ne. rw (ne-eqb (e .number) i (λ h. ne (sym h)))) one two;
-    mover = rw (here, gone, low) (omega (arith, reach-below (e .number) c, reach-below (e .number) d))
+    mover = rw (here, gone, low) (omega (arith, reach-below (e .number) c, reach-below (e .number) d));
   }
     where
       here : stands (e .number) (e ∷ q) ≡ true
       here = or-left (eqb (e .number) (e .number)) (stands (e .number) q) (grind arith)
+
       gone : stands (e .number) q ≡ false
       gone = let far = lined-below (e .number) q now (g .0 .lined .1) in not-standing (e .number) (e .number) q now (g .0 .lined .1) (far .0)
+
       low : ltb p (e .number) ≡ true
       low = grind (arith, g .0 .lined .0)
 
@@ -129,7 +131,7 @@ module _ {K T : Type 0} (w : Kinds K T) (rs : List (Request K)) where
   falls-left m R now i s t q a b c g f = record {
     waits = or-right (stands m q) (waiting m a || waiting m b) under;
     others = stays-node m i s t q q a b c b (λ j ne. refl) (f .others) (stays-same m b);
-    mover = rw (not-above w rs R now i s t q a b m g under) (omega (arith, f .mover))
+    mover = rw (not-above w rs R now i s t q a b m g under) (omega (arith, f .mover));
   }
     where
       under : (waiting m a || waiting m b) ≡ true
@@ -140,7 +142,7 @@ module _ {K T : Type 0} (w : Kinds K T) (rs : List (Request K)) where
   falls-right m R now i s t q a b c g f = record {
     waits = or-right (stands m q) (waiting m a || waiting m b) under;
     others = stays-node m i s t q q a b a c (λ j ne. refl) (stays-same m a) (f .others);
-    mover = rw (not-above w rs R now i s t q a b m g under) (omega (arith, f .mover))
+    mover = rw (not-above w rs R now i s t q a b m g under) (omega (arith, f .mover));
   }
     where
       under : (waiting m a || waiting m b) ≡ true
@@ -161,15 +163,15 @@ module _ {K T : Type 0} (w : Kinds K T) (rs : List (Request K)) where
             let same : q ≡ e ∷ es = sym (d .1) ∙ ap queue (eqb-true i p f) ∙ head in
             let pair = stays-pair w r (e .number) (e .mode) s a b in
             let there = subst (λ u. Good w rs R now (node i s t u a b) → Falls (e .number) (node i s t u a b) (moved-node w r (node i s t u a b))) (sym same)
-                  (λ g. node-falls R now i s t e es a b _ _ g (pair .0) (pair .1)) in
+            (λ g. node-falls R now i s t e es a b _ _ g (pair .0) (pair .1)) in
             rw f (there g)
         go one two false f =
             inside-cases w rs p i s t q a b h
             (λ u. absurd (true≢false (sym (eq-eqb i p (sym u)) ∙ f)))
             (λ u. let lone : inside p b ≡ false = false-unless (inside p b) (λ v. makers-apart w rs R s p (inside-maker w rs (left-of w R s) (below q now) a p (g .2) u) (inside-maker w rs (right-of w R s) (below q now) b p (g .3) v)) in
-                  rw (f, alter-outside p (moved-node w r) b lone) (falls-left (e .number) R now i s t q a b (alter p (moved-node w r) a) g (one u)))
+            rw (f, alter-outside p (moved-node w r) b lone) (falls-left (e .number) R now i s t q a b (alter p (moved-node w r) a) g (one u)))
             (λ u. let lone : inside p a ≡ false = false-unless (inside p a) (λ v. makers-apart w rs R s p (inside-maker w rs (left-of w R s) (below q now) a p (g .2) v) (inside-maker w rs (right-of w R s) (below q now) b p (g .3) u)) in
-                  rw (f, alter-outside p (moved-node w r) a lone) (falls-right (e .number) R now i s t q a b (alter p (moved-node w r) b) g (two u)))
+            rw (f, alter-outside p (moved-node w r) a lone) (falls-right (e .number) R now i s t q a b (alter p (moved-node w r) b) g (two u)))
 
   -- the sums of what is to reach and what is not made, in a good tree and what became of it
   module _ (R : K → Bool) (now then : ℕ) (m : ℕ) (x y : Tree K T) (gx : Good w rs R now x) (ox : Over 0 x) (gy : Good w rs R then y) (oy : Over 0 y) where

@@ -75,13 +75,14 @@ module _ {K T : Type 0} (w : Kinds K T) (l : Lawful w) (s : State K T) (x : Tree
 
   -- a finished request has passed the gate and waits nowhere in the tree
   pub finished-out : (t : ℕ) → t ≤ given s → finished s t ≡ true → (t < time) × (waiting t x ≡ false)
-  finished-out t le done =
-      ( ⊎-elim (λ lt. lt) (λ ge. absurd (true≢false (sym done ∙ unfinished t 0 (omega arith) (in-turn-stands time (s .queue 0) (suc (given s)) t (h .gate) ge (omega arith))))) (cases-lt t time)
-      , false-unless (waiting t x) (λ e.
-          let at = waiting-where (s .place) (s .queue) x t (h .drawn) e in
-          let made = inside-maker w (s .requests) (Everywhere w (s .requests)) time x (at .0) (h .good) (at .1) in
-          let known = numbered-within (s .requests) (at .0) (Enter (made .0)) (made .1) in
-          true≢false (sym done ∙ unfinished t (at .0) (omega (arith, known .1)) (at .2))))
+  finished-out t le done = (
+    ⊎-elim (λ lt. lt) (λ ge. absurd (true≢false (sym done ∙ unfinished t 0 (omega arith) (in-turn-stands time (s .queue 0) (suc (given s)) t (h .gate) ge (omega arith))))) (cases-lt t time),
+    false-unless (waiting t x) (λ e.
+        let at = waiting-where (s .place) (s .queue) x t (h .drawn) e in
+        let made = inside-maker w (s .requests) (Everywhere w (s .requests)) time x (at .0) (h .good) (at .1) in
+        let known = numbered-within (s .requests) (at .0) (Enter (made .0)) (made .1) in
+        true≢false (sym done ∙ unfinished t (at .0) (omega (arith, known .1)) (at .2))),
+  )
 
   -- so it bears the plain set's answer
   borne : (t : ℕ) (r : Request K) → numbered (s .requests) t ≡ Some r → t < time → waiting t x ≡ false → bears s t r ≡ Some (answered w r (set-before w (s .requests) t))

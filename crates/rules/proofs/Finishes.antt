@@ -84,10 +84,10 @@ module _ {K T : Type 0} (w : Kinds K T) (rs : List (Request K)) (s : State K T) 
   finished-visits t le e =
       ⊎-elim
       (λ (lt : t < time). visits-tree t lt false (false-unless (waiting t x) (λ v.
-          let u = waiting-where (s .place) (s .queue) x t (h .drawn) v in
-          let b = inside-before w rs (Everywhere w rs) time x (u .0) (h .good) (u .1) in
-          let end = in-turn-end time (s .queue 0) (suc (length rs)) (h .gate) in
-          true≢false (sym e ∙ standing t (u .0) (omega (arith, b)) (u .2)))))
+      let u = waiting-where (s .place) (s .queue) x t (h .drawn) v in
+      let b = inside-before w rs (Everywhere w rs) time x (u .0) (h .good) (u .1) in
+      let end = in-turn-end time (s .queue 0) (suc (length rs)) (h .gate) in
+      true≢false (sym e ∙ standing t (u .0) (omega (arith, b)) (u .2)))))
       (λ (ge : time ≤ t). absurd (true≢false (sym e ∙ standing t 0 (omega arith) (in-turn-stands time (s .queue 0) (suc (length rs)) t (h .gate) ge (omega arith)))))
       (cases-lt t time)
 
@@ -103,7 +103,7 @@ module _ {K T : Type 0} (w : Kinds K T) (rs : List (Request K)) (s : State K T) 
   visits-short i =
       ⊎-elim
       (λ (lt : i < time). let u = reach-short w rs (Everywhere w rs) time x i (h .good) (h .over) in
-          rw (lt-leb time i lt) (go (omega arith) (waiting i x)))
+      rw (lt-leb time i lt) (go (omega arith) (waiting i x)))
       (λ (ge : time ≤ i). let v = visits-gate i ge in omega arith)
       (cases-lt i time)
     where
@@ -115,12 +115,12 @@ module _ {K T : Type 0} (w : Kinds K T) (rs : List (Request K)) (s : State K T) 
   pub head-sooner : (t p : ℕ) → stands t (s .queue p) ≡ true → Headed t (s .queue p)
   head-sooner t zero e =
       headed t (s .queue 0) e (λ a es f.
-        let first = turn-head time (s .queue 0) (suc (length rs)) a es (h .gate) f in
-        let u = turn-between t time (s .queue 0) (suc (length rs)) (h .gate) e in
-        let pos = h .started in
-        (omega arith, omega (arith, u .0)))
+      let first = turn-head time (s .queue 0) (suc (length rs)) a es (h .gate) f in
+      let u = turn-between t time (s .queue 0) (suc (length rs)) (h .gate) e in
+      let pos = h .started in
+      (omega arith, omega (arith, u .0)))
   head-sooner t (suc p) e =
       headed t (s .queue (suc p)) e (λ a es f.
-        let l = drawn-lined w rs (s .place) (s .queue) (Everywhere w rs) time x (suc p) (h .good) (h .drawn) (stands-inside t p e) in
-        let u = lined-head t (suc p) a es (l .0) (subst (λ q. Lined (suc p) q (l .0)) f (l .1)) (ap (stands t) (sym f) ∙ e) in
-        (omega (arith, u .0), u .1))
+      let l = drawn-lined w rs (s .place) (s .queue) (Everywhere w rs) time x (suc p) (h .good) (h .drawn) (stands-inside t p e) in
+      let u = lined-head t (suc p) a es (l .0) (subst (λ q. Lined (suc p) q (l .0)) f (l .1)) (ap (stands t) (sym f) ∙ e) in
+      (omega (arith, u .0), u .1))

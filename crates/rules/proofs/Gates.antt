@@ -83,9 +83,11 @@ module _ {K T : Type 0} (w : Kinds K T) (l : Lawful w) (s : State K T) (x y : Tr
     good = through .good;
     decided = λ i r₁ k asked seeks.
         ⊎-elim (λ d. inl (ap (λ f. f i) (tame .rest .decision) ∙ d))
-        (λ d. inr (ap (λ f. f i) (tame .rest .decision) ∙ d .0,
+        (λ d. inr (
+          ap (λ f. f i) (tame .rest .decision) ∙ d .0,
           (let later : (i ≡ time → ⊥) = λ same. decided-now k (ap sought (one r₁ (sym asked-now ∙ ap (numbered (s .requests)) (sym same) ∙ asked)) ∙ seeks) (ap (s .decision) (sym same) ∙ d .0) in
-           let from = d .1 in above i later from)))
+              let from = d .1 in above i later from),
+        ))
         (h .decided i r₁ k asked seeks);
     unasked = λ i over. ap (λ f. f i) (tame .rest .decision) ∙ h .unasked i over;
     answers = λ i r₁ asked lt out.
@@ -101,13 +103,15 @@ module _ {K T : Type 0} (w : Kinds K T) (l : Lawful w) (s : State K T) (x y : Tr
     uncounted = λ i late. tame .counted i (away i (λ same. omega arith)) ∙ h .uncounted i (omega arith);
     walks = λ n i p noted undone.
         let old = h .walks n i p (sym (ap (λ f. f n .note) (tame .rest .desk)) ∙ noted) (sym (ap (λ f. f i) (tame .rest .decision)) ∙ undone) in
-        absurd (decided-now (old .key) (ap sought (one (old .request) (sym asked-now ∙ ap (numbered (s .requests)) (sym (old .head)) ∙ old .asked)) ∙ old .seeks) (ap (s .decision) (sym (old .head)) ∙ (sym (ap (λ f. f i) (tame .rest .decision)) ∙ undone)))
+        absurd (decided-now (old .key) (ap sought (one (old .request) (sym asked-now ∙ ap (numbered (s .requests)) (sym (old .head)) ∙ old .asked)) ∙ old .seeks) (ap (s .decision) (sym (old .head)) ∙ (sym (ap (λ f. f i) (tame .rest .decision)) ∙ undone)));
   }
     where
       one : (r₁ : Request K) → Some r ≡ Some r₁ → r ≡ r₁
       one r₁ same = cc
+
       above : (i : ℕ) → (i ≡ time → ⊥) → time ≤ i → suc time ≤ i
       above i other from = omega arith
+
       earlier : (i : ℕ) → (i ≡ time → ⊥) → i < suc time → i < time
       earlier i other lt = omega arith
 
@@ -120,5 +124,5 @@ module _ {K T : Type 0} (w : Kinds K T) (l : Lawful w) (s : State K T) (x y : Tr
         let same = put-other (s .queue) 0 (behind (s .queue 0)) i (apart-eqb i 0 no) in
         ap (heads r₁) (grown .1 ∙ ap (λ g. g ++ grown .0) same) ∙ heads-grown r₁ (s .queue i) (grown .0) on;
     waits = λ i no. through .waits i (λ same. no (same ∙ sym first));
-    down = inr (refl, first, refl, λ i no. through .stays i (λ same. no (same ∙ sym first)))
+    down = inr (refl, first, refl, λ i no. through .stays i (λ same. no (same ∙ sym first)));
   }

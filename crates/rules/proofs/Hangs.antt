@@ -70,7 +70,7 @@ module _ {K T : Type 0} (w : Kinds K T) (rs : List (Request K)) (pl pl′ : ℕ 
         let rest = or-second (eqb i p) (inside i c || inside i d) h in
         kept i (or-first (eqb i p) (inside i c || inside i d) h)
         (false-unless (topped c i) (λ e. true≢false (sym (topped-inside c i e) ∙ or-first (inside i c) (inside i d) rest)))
-        (false-unless (topped d i) (λ e. true≢false (sym (topped-inside d i e) ∙ or-second (inside i c) (inside i d) rest)))
+        (false-unless (topped d i) (λ e. true≢false (sym (topped-inside d i e) ∙ or-second (inside i c) (inside i d) rest)));
   }
 
   -- the same with one child as it was
@@ -81,13 +81,13 @@ module _ {K T : Type 0} (w : Kinds K T) (rs : List (Request K)) (pl pl′ : ℕ 
   anew-side on-left p R now s t q a b c g place-p queue-p own-c own-b kept =
       anew p R now s t q c b g place-p queue-p own-c
       (drawn-frame pl pl′ qu qu′ b (λ i h. kept i
-        (apart-eqb i p (λ e. let o = inside-over w rs (right-of w R s) (below q now) b p i (g .3) (g .1 .1) h in omega arith))
-        (false-unless (topped c i) (λ e. makers-apart w rs R s i (inside-maker w rs (left-of w R s) (below q now) c i (g .2) (topped-inside c i e)) (inside-maker w rs (right-of w R s) (below q now) b i (g .3) h)))) own-b)
+      (apart-eqb i p (λ e. let o = inside-over w rs (right-of w R s) (below q now) b p i (g .3) (g .1 .1) h in omega arith))
+      (false-unless (topped c i) (λ e. makers-apart w rs R s i (inside-maker w rs (left-of w R s) (below q now) c i (g .2) (topped-inside c i e)) (inside-maker w rs (right-of w R s) (below q now) b i (g .3) h)))) own-b)
       (λ i u v x. kept i u v)
   anew-side on-right p R now s t q a b c g place-p queue-p own-c own-a kept =
       anew p R now s t q a c g place-p queue-p
       (drawn-frame pl pl′ qu qu′ a (λ i h. kept i
-        (apart-eqb i p (λ e. let o = inside-over w rs (left-of w R s) (below q now) a p i (g .2) (g .1 .0) h in omega arith))
-        (false-unless (topped c i) (λ e. makers-apart w rs R s i (inside-maker w rs (left-of w R s) (below q now) a i (g .2) h) (inside-maker w rs (right-of w R s) (below q now) c i (g .3) (topped-inside c i e))))) own-a)
+      (apart-eqb i p (λ e. let o = inside-over w rs (left-of w R s) (below q now) a p i (g .2) (g .1 .0) h in omega arith))
+      (false-unless (topped c i) (λ e. makers-apart w rs R s i (inside-maker w rs (left-of w R s) (below q now) a i (g .2) h) (inside-maker w rs (right-of w R s) (below q now) c i (g .3) (topped-inside c i e))))) own-a)
       own-c
       (λ i u v x. kept i u x)

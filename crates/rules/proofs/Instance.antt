@@ -16,5 +16,5 @@ stepper w l = record {
   moves-tree = moves-tree w l;
   moves-gate = moves-gate w l;
   reads-gate = reads-gate w l;
-  reads-walk = reads-walk w l
+  reads-walk = reads-walk w l;
 }

@@ -39,7 +39,7 @@ pub record Stepper {K T : Type 0} (w : Kinds K T) : Type 0 where
       → (s .slot ≡ empty → was w rs time k ≡ false) × ((j : K) → s .slot ≡ holds j → same w j k ≡ was w rs time k) × ((f : ℕ) → s .slot ≡ leads f → Walks w rs time f time x)
   pub reads-walk : (rs : List (Request K)) (x : Tree K T) (time : ℕ) (s : State K T) → Holds w rs s x time → (t p : ℕ) (walk : Walks w rs t p time x)
       → ((d : Bool) → last-word w rs (walk .key) (s .queue p) ≡ Some d → d ≡ was w rs t (walk .key))
-        × (last-word w rs (walk .key) (s .queue p) ≡ None
-          → (slot-for w s p (walk .key) ≡ empty → was w rs t (walk .key) ≡ false)
-            × ((j : K) → slot-for w s p (walk .key) ≡ holds j → same w j (walk .key) ≡ was w rs t (walk .key))
-            × ((f : ℕ) → slot-for w s p (walk .key) ≡ leads f → Walks w rs t f time x × (p < f)))
+      × (last-word w rs (walk .key) (s .queue p) ≡ None
+      → (slot-for w s p (walk .key) ≡ empty → was w rs t (walk .key) ≡ false)
+      × ((j : K) → slot-for w s p (walk .key) ≡ holds j → same w j (walk .key) ≡ was w rs t (walk .key))
+      × ((f : ℕ) → slot-for w s p (walk .key) ≡ leads f → Walks w rs t f time x × (p < f)))

@@ -52,20 +52,21 @@ module _ {K T : Type 0} (w : Kinds K T) (rs : List (Request K)) where
   pub node-joins : (R : K → Bool) (u : ℕ) (f : ℕ) (s : K) (old tally : T) (q : List Waiter) (e : Waiter) (a b : Tree K T)
       → e .number < u → tally ≡ weight-before w R rs u → Waiter-fits w rs R (e .number) (e .mode) (numbered rs (e .number))
       → Still w rs R (suc (e .number)) u → Good w rs R (e .number) (node f s old q a b) → Good w rs R u (node f s tally (q ++ (e ∷ [])) a b)
-  node-joins R u f s old tally q e a b h weighs fit quiet g =
-      ( record {
-          maker = g .0 .maker;
-          made = g .0 .made;
-          maker-here = g .0 .maker-here;
-          split-here = g .0 .split-here;
-          weighs = weighs;
-          lined = lined-append f q e u (g .0 .lined) h;
-          fits = fits-append R q e (g .0 .fits) fit;
-          still = still
-        }
-      , g .1
-      , subst (λ t. Good w rs (left-of w R s) t a) (sym (below-append q e u)) (g .2)
-      , subst (λ t. Good w rs (right-of w R s) t b) (sym (below-append q e u)) (g .3))
+  node-joins R u f s old tally q e a b h weighs fit quiet g = (
+    record {
+      maker = g .0 .maker;
+      made = g .0 .made;
+      maker-here = g .0 .maker-here;
+      split-here = g .0 .split-here;
+      weighs = weighs;
+      lined = lined-append f q e u (g .0 .lined) h;
+      fits = fits-append R q e (g .0 .fits) fit;
+      still = still;
+    },
+    g .1,
+    subst (λ t. Good w rs (left-of w R s) t a) (sym (below-append q e u)) (g .2),
+    subst (λ t. Good w rs (right-of w R s) t b) (sym (below-append q e u)) (g .3),
+  )
     where
       still : Still-but w rs R (q ++ (e ∷ [])) u
       still i lo hi out k here =
@@ -81,20 +82,21 @@ module _ {K T : Type 0} (w : Kinds K T) (rs : List (Request K)) where
   pub node-moves : (R : K → Bool) (t : ℕ) (p : ℕ) (s : K) (tally : T) (e : Waiter) (q : List Waiter) (a b c d : Tree K T)
       → Good w rs R t (node p s tally (e ∷ q) a b) → Over p c → Over p d
       → Good w rs (left-of w R s) (below q t) c → Good w rs (right-of w R s) (below q t) d → Good w rs R t (node p s tally q c d)
-  node-moves R t p s tally e q a b c d g oc od gc gd =
-      ( record {
-          maker = g .0 .maker;
-          made = g .0 .made;
-          maker-here = g .0 .maker-here;
-          split-here = g .0 .split-here;
-          weighs = g .0 .weighs;
-          lined = lined-down (e .number) p q t (omega (arith, g .0 .lined .0)) (g .0 .lined .1);
-          fits = g .0 .fits .1;
-          still = still
-        }
-      , (oc, od)
-      , gc
-      , gd)
+  node-moves R t p s tally e q a b c d g oc od gc gd = (
+    record {
+      maker = g .0 .maker;
+      made = g .0 .made;
+      maker-here = g .0 .maker-here;
+      split-here = g .0 .split-here;
+      weighs = g .0 .weighs;
+      lined = lined-down (e .number) p q t (omega (arith, g .0 .lined .0)) (g .0 .lined .1);
+      fits = g .0 .fits .1;
+      still = still;
+    },
+    (oc, od),
+    gc,
+    gd,
+  )
     where
       still : Still-but w rs R q t
       still i lo hi out =
@@ -111,6 +113,7 @@ module _ {K T : Type 0} (w : Kinds K T) (rs : List (Request K)) where
       away : (x : ℕ) (rest : List Waiter) → Lined x rest t → i ≤ x → stands i rest ≡ false
       away x [] d h = refl
       away x (y ∷ rest) d h = let ih = away (y .number) rest (d .1) (omega (arith, d .0)) in let other : eqb (y .number) i ≡ false = grind (arith, d .0) in grind arith
+
       nobody : (rest : List Waiter) → Lined (e .number) rest t → i < below rest t → stands i (e ∷ rest) ≡ false
       nobody [] d h = grind arith
       nobody (y ∷ rest) d h = let ih = away (y .number) rest (d .1) (omega arith) in let one : eqb (e .number) i ≡ false = grind arith in let other : eqb (y .number) i ≡ false = grind arith in grind arith

@@ -39,7 +39,7 @@ opens w l cells = record {
   answers = λ i r asked. absurd (nobody i r asked);
   counts = λ i lo hi asked. absurd (nobody i (Count lo hi) asked);
   uncounted = λ i e. refl;
-  walks = λ n t p noted. absurd (let z : _≡_ {A = ℕ} 0 1 = cc in omega arith)
+  walks = λ n t p noted. absurd (let z : _≡_ {A = ℕ} 0 1 = cc in omega arith);
 }
   where
     nobody : {X : Type 0} (i : ℕ) (r : X) → numbered [] i ≡ Some r → ⊥
@@ -49,9 +49,20 @@ module _ {K T : Type 0} (w : Kinds K T) (rs : List (Request K)) (x : Tree K T) (
   -- a station's desk changes, and its note is no wrong walk
   pub desks : (n : ℕ) (d : Desk) → ((t p : ℕ) → d .note ≡ note.Walk t p → s .decision t ≡ None → Walks w rs t p time x) → Holds w rs (with-desk s n d) x time
   desks n d right = record {
-    requests = h .requests; rooted = h .rooted; drawn = h .drawn; others = h .others; over = h .over; gate = h .gate;
-    started = h .started; good = h .good; decided = h .decided; unasked = h .unasked; answers = λ i r. kept i r; counts = h .counts; uncounted = h .uncounted;
-    walks = λ i t p noted undone. go i t p undone (eqb i n) refl noted
+    requests = h .requests;
+    rooted = h .rooted;
+    drawn = h .drawn;
+    others = h .others;
+    over = h .over;
+    gate = h .gate;
+    started = h .started;
+    good = h .good;
+    decided = h .decided;
+    unasked = h .unasked;
+    answers = λ i r. kept i r;
+    counts = h .counts;
+    uncounted = h .uncounted;
+    walks = λ i t p noted undone. go i t p undone (eqb i n) refl noted;
   }
     where
       kept : (i : ℕ) (r : Request K) → numbered rs i ≡ Some r → i < time → waiting i x ≡ false → Bears w rs (with-desk s n d) i r
@@ -59,6 +70,7 @@ module _ {K T : Type 0} (w : Kinds K T) (rs : List (Request K)) (x : Tree K T) (
       kept i (Withdraw k) asked lt out = h .answers i (Withdraw k) asked lt out
       kept i (LookUp k) asked lt out = h .answers i (LookUp k) asked lt out
       kept i (Count lo hi) asked lt out = tt
+
       go : (i t p : ℕ) → s .decision t ≡ None → (b : Bool) → eqb i n ≡ b → put (s .desk) n d i .note ≡ note.Walk t p → Walks w rs t p time x
       go i t p undone true e noted = right t p (sym (ap (λ v. cond v d (s .desk i) .note) e) ∙ noted) undone
       go i t p undone false e noted = h .walks i t p (sym (ap (λ v. cond v d (s .desk i) .note) e) ∙ noted) undone
@@ -66,12 +78,20 @@ module _ {K T : Type 0} (w : Kinds K T) (rs : List (Request K)) (x : Tree K T) (
   -- a decision is written, and right
   pub decides : (t : ℕ) (r : Request K) (k : K) (d : Bool) → numbered rs t ≡ Some r → sought r ≡ Some k → d ≡ was w rs t k → Holds w rs (with-decision s t d) x time
   decides t r k d num seeks right = record {
-    requests = h .requests; rooted = h .rooted; drawn = h .drawn; others = h .others; over = h .over; gate = h .gate;
-    started = h .started; good = h .good;
+    requests = h .requests;
+    rooted = h .rooted;
+    drawn = h .drawn;
+    others = h .others;
+    over = h .over;
+    gate = h .gate;
+    started = h .started;
+    good = h .good;
     decided = λ i r₁ k₁ asked wants. go i r₁ k₁ asked wants (eqb i t) refl;
     unasked = λ i over. put-other (s .decision) t (Some d) i (apart-eqb i t (λ same. let b = numbered-within rs t r num in omega (arith, b .1))) ∙ h .unasked i over;
-    answers = λ i r. kept i r; counts = h .counts; uncounted = h .uncounted;
-    walks = λ n i p noted undone. h .walks n i p noted (still i undone (eqb i t) refl)
+    answers = λ i r. kept i r;
+    counts = h .counts;
+    uncounted = h .uncounted;
+    walks = λ n i p noted undone. h .walks n i p noted (still i undone (eqb i t) refl);
   }
     where
       kept : (i : ℕ) (r₁ : Request K) → numbered rs i ≡ Some r₁ → i < time → waiting i x ≡ false → Bears w rs (with-decision s t d) i r₁
@@ -79,6 +99,7 @@ module _ {K T : Type 0} (w : Kinds K T) (rs : List (Request K)) (x : Tree K T) (
       kept i (Withdraw j) asked lt out = h .answers i (Withdraw j) asked lt out
       kept i (LookUp j) asked lt out = h .answers i (LookUp j) asked lt out
       kept i (Count lo hi) asked lt out = tt
+
       go : (i : ℕ) (r₁ : Request K) (k₁ : K) → numbered rs i ≡ Some r₁ → sought r₁ ≡ Some k₁ → (b : Bool) → eqb i t ≡ b → (put (s .decision) t (Some d) i ≡ Some (was w rs i k₁)) ⊎ ((put (s .decision) t (Some d) i ≡ None) × (time ≤ i))
       go i r₁ k₁ asked wants true e =
           let same = eqb-eq i t e in
@@ -89,6 +110,7 @@ module _ {K T : Type 0} (w : Kinds K T) (rs : List (Request K)) (x : Tree K T) (
           inl (ap (λ v. cond v (Some d) (s .decision i)) e ∙ ap Some (right ∙ ap (λ j. was w rs j k) (sym same) ∙ ap (was w rs i) key))
       go i r₁ k₁ asked wants false e =
           ⊎-elim (λ old. inl (ap (λ v. cond v (Some d) (s .decision i)) e ∙ old)) (λ old. inr (ap (λ v. cond v (Some d) (s .decision i)) e ∙ old .0, old .1)) (h .decided i r₁ k₁ asked wants)
+
       still : (i : ℕ) → put (s .decision) t (Some d) i ≡ None → (b : Bool) → eqb i t ≡ b → s .decision i ≡ None
       still i undone true e = absurd (let z : _≡_ {A = ℕ} 0 1 = clash (sym (ap (λ v. cond v (Some d) (s .decision i)) e) ∙ undone) in omega arith)
         where

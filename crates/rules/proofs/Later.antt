@@ -50,20 +50,21 @@ module _ {K T : Type 0} (w : Kinds K T) (l : Lawful w) (rs : List (Request K)) w
     weighs = g .weighs ∙ sym (weight-still w l rs R t u h quiet);
     lined = lined-up p q t u h (g .lined);
     fits = g .fits;
-    still = still
+    still = still;
   }
 
   -- a tree stays good at a later time while nothing of its region changes
   pub good-later : (R : K → Bool) (t u : ℕ) (x : Tree K T) → t ≤ u → Still w rs R t u → Good w rs R t x → Good w rs R u x
   good-later R t u bare h q g = λ k e. was-still w l rs R t u h q k e ∙ g k e
   good-later R t u (leaf j) h q g = (g .0, λ k e. was-still w l rs R t u h q k e ∙ g .1 k e)
-  good-later R t u (node p s tally [] a b) h q g =
-      ( place-later R t u p s tally [] h q (λ i lo hi. absurd (omega arith)) (g .0)
-      , g .1
-      , good-later (left-of w R s) t u a h (still-within w l rs R (left-of w R s) t u (left-in w R s) q) (g .2)
-      , good-later (right-of w R s) t u b h (still-within w l rs R (right-of w R s) t u (right-in w R s) q) (g .3))
+  good-later R t u (node p s tally [] a b) h q g = (
+    place-later R t u p s tally [] h q (λ i lo hi. absurd (omega arith)) (g .0),
+    g .1,
+    good-later (left-of w R s) t u a h (still-within w l rs R (left-of w R s) t u (left-in w R s) q) (g .2),
+    good-later (right-of w R s) t u b h (still-within w l rs R (right-of w R s) t u (right-in w R s) q) (g .3),
+  )
   good-later R t u (node p s tally (e ∷ es) a b) h q g =
-      ( place-later R t u p s tally (e ∷ es) h q still (g .0) , g .1 , g .2 , g .3)
+      (place-later R t u p s tally (e ∷ es) h q still (g .0), g .1, g .2, g .3)
     where
       still : Still-but w rs R (e ∷ es) u
       still i lo hi = ⊎-elim (λ lt. g .0 .still i lo lt) (λ ge out. q i ge hi) (cases-lt i t)

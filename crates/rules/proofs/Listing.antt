@@ -46,13 +46,15 @@ tree-keys (node p s t q a b) = tree-keys a ++ tree-keys b
 idle : {K T : Type 0} (x : Tree K T) → ((i : ℕ) → waiting i x ≡ false) → Idle x
 idle bare h = tt
 idle (leaf k) h = tt
-idle (node p s t q a b) h =
-    ( nobody q (λ i. or-first (stands i q) (waiting i a || waiting i b) (h i))
-    , idle a (λ i. or-first (waiting i a) (waiting i b) (or-second (stands i q) (waiting i a || waiting i b) (h i)))
-    , idle b (λ i. or-second (waiting i a) (waiting i b) (or-second (stands i q) (waiting i a || waiting i b) (h i))))
+idle (node p s t q a b) h = (
+  nobody q (λ i. or-first (stands i q) (waiting i a || waiting i b) (h i)),
+  idle a (λ i. or-first (waiting i a) (waiting i b) (or-second (stands i q) (waiting i a || waiting i b) (h i))),
+  idle b (λ i. or-second (waiting i a) (waiting i b) (or-second (stands i q) (waiting i a || waiting i b) (h i))),
+)
   where
     self : (j : ℕ) → eqb j j ≡ true
     self j = grind arith
+
     nobody : (q : List Waiter) → ((i : ℕ) → stands i q ≡ false) → q ≡ []
     nobody [] f = refl
     nobody (e ∷ q) f = absurd (true≢false (sym (or-left (eqb (e .number) (e .number)) (stands (e .number) q) (self (e .number))) ∙ f (e .number)))
@@ -90,8 +92,8 @@ module _ {K T : Type 0} (w : Kinds K T) (l : Lawful w) (rs : List (Request K)) w
       let gb = subst (λ u. Good w rs (right-of w R s) u b) level (g .3) in
       ascends-append w l (tree-keys a) (tree-keys b) (tree-ascends (left-of w R s) t a (i .1) ga) (tree-ascends (right-of w R s) t b (i .2) gb)
       (λ k j u z. before-le-trans w l k s j
-        (and-second (R k) (before w k s) (and-first (R k && before w k s) (was w rs t k) (sym (tree-has (left-of w R s) t a (i .1) ga k) ∙ u)))
-        (and-second (R j) (w .le s j) (and-first (R j && w .le s j) (was w rs t j) (sym (tree-has (right-of w R s) t b (i .2) gb j) ∙ z))))
+      (and-second (R k) (before w k s) (and-first (R k && before w k s) (was w rs t k) (sym (tree-has (left-of w R s) t a (i .1) ga k) ∙ u)))
+      (and-second (R j) (w .le s j) (and-first (R j && w .le s j) (was w rs t j) (sym (tree-has (right-of w R s) t b (i .2) gb j) ∙ z))))
 
 -- numbers rise on every way down
 abbrev All-over : {K T : Type 0} → Tree K T → Type 0
@@ -135,23 +137,31 @@ module _ {K T : Type 0} (w : Kinds K T) (l : Lawful w) (s : State K T) (x : Tree
     where
       each : (t : ℕ) → 0 < t → t ≤ given s → (t < time) × (waiting t x ≡ false)
       each t z le = finished-out w l s x time h t le (all-pass (finished s) (given s) done t z le)
+
       near : time ≤ suc (given s)
       near = in-turn-end time (s .queue 0) (suc (given s)) (h .gate)
+
       last : time ≡ suc (given s)
       last = ⊎-elim (λ lt. absurd (let e = each time (h .started) (omega arith) in omega (arith, e .0))) (λ ge. omega (arith, near)) (cases-lt time (suc (given s)))
+
       silent : (i : ℕ) → waiting i x ≡ false
       silent i = false-unless (waiting i x) (λ e.
           let young = waiting-before w (s .requests) (Everywhere w (s .requests)) time x i (h .good) e in
           let old = waiting-over w (s .requests) (Everywhere w (s .requests)) time x 0 i (h .good) (h .over) e in
           true≢false (sym e ∙ each i old (omega (arith, near)) .1))
+
       quiet : Idle x
       quiet = idle x silent
+
       few : (i : ℕ) → inside i x ≡ true → i ≤ given s
       few i e = let m = inside-maker w (s .requests) (Everywhere w (s .requests)) time x i (h .good) e in numbered-within (s .requests) i (Enter (m .0)) (m .1) .1
+
       lists : keys-listed s ≡ tree-keys x
       lists = ap (keys-under s (given s)) (h .rooted) ∙ listed s (given s) x 0 (given s) (h .drawn) (h .over) (all-over w (s .requests) (Everywhere w (s .requests)) time x (h .good)) few (omega arith)
+
       end : set-before w (s .requests) time ≡ set-after w (s .requests)
       end = ap (set-before w (s .requests)) last ∙ set-at-end w l (s .requests) (given s) (omega arith)
+
       plain : keys-listed s ≡ set-after w (s .requests)
       plain =
           lists ∙ same-rows w l (tree-keys x) (set-after w (s .requests)) (tree-ascends w l (s .requests) (Everywhere w (s .requests)) time x quiet (h .good)) (ascends-set-after w l (s .requests))

@@ -106,7 +106,7 @@ module _ {K T : Type 0} (w : Kinds K T) (l : Lawful w) (s : State K T) (p₀ : �
       waits = λ i no. waits-node w r (suc p₀) sp tally e q a b i no;
       mover = mover;
       pends = sums;
-      ways = λ k i o. ways-node w (s .requests) r (suc p₀) sp tally e q a b k i num o
+      ways = λ k i o. ways-node w (s .requests) r (suc p₀) sp tally e q a b k i num o;
     }
 
     -- an enter or a withdraw on a side
@@ -129,9 +129,9 @@ module _ {K T : Type 0} (w : Kinds K T) (l : Lawful w) (s : State K T) (p₀ : �
           leaves s′ (subst (λ y. Drawn-anew w (s .requests) (s .place) (s′ .place) (s .queue) (s′ .queue) (suc p₀) R y) (sym hangs) scalar-anew)
           (⊎-elim (λ h. inl (ap (waiting (e .number)) hangs ∙ waiting-hung σ (suc p₀) sp tally q a b c (e .number) h)) (λ h. inr (changes h)) (m .mover))
           (λ i lo hi count.
-            let other-one : i ≡ e .number → ⊥ = λ same. no-count lo hi (let both : Some r ≡ Some (Count lo hi) = sym num ∙ ap (numbered (s .requests)) (sym same) ∙ count in cc) in
-            let sums = pending-node w l (s .requests) r (suc p₀) sp tally e q a b i lo hi R other-one in
-            ap (λ f. w .joined (f i) (pending w (s .requests) i lo hi R after-move)) (m .counted) ∙ ap (w .joined (s .counted i)) sums)
+          let other-one : i ≡ e .number → ⊥ = λ same. no-count lo hi (let both : Some r ≡ Some (Count lo hi) = sym num ∙ ap (numbered (s .requests)) (sym same) ∙ count in cc) in
+          let sums = pending-node w l (s .requests) r (suc p₀) sp tally e q a b i lo hi R other-one in
+          ap (λ f. w .joined (f i) (pending w (s .requests) i lo hi R after-move)) (m .counted) ∙ ap (w .joined (s .counted i)) sums)
 
     -- the place hangs in neither child, so both are drawn as before
     child-drawn : (σ : Side) → Drawn (left-queue .place) (left-queue .queue) (picked σ a b)
@@ -153,7 +153,7 @@ module _ {K T : Type 0} (w : Kinds K T) (l : Lawful w) (s : State K T) (p₀ : �
     child-top : (σ : Side) → topped (picked σ a b) (suc p₀) ≡ false
     child-top σ =
         false-unless (topped (picked σ a b) (suc p₀)) (λ h.
-          let o = inside-over w (s .requests) (side-region σ) (e .number) (picked σ a b) (suc p₀) (suc p₀) (child-good σ) (child-over σ) (topped-inside (picked σ a b) (suc p₀) h) in omega arith)
+        let o = inside-over w (s .requests) (side-region σ) (e .number) (picked σ a b) (suc p₀) (suc p₀) (child-good σ) (child-over σ) (topped-inside (picked σ a b) (suc p₀) h) in omega arith)
 
     head-away : eqb (suc p₀) (e .number) ≡ false
     head-away = apart-eqb (suc p₀) (e .number) (λ h. omega (arith, g .0 .lined .0))
@@ -166,7 +166,7 @@ module _ {K T : Type 0} (w : Kinds K T) (l : Lawful w) (s : State K T) (p₀ : �
       answer = λ y. refl;
       counted = λ y. refl;
       same-place = put-here (s .place) (suc p₀) _ ∙ ap Some (again σ) ∙ sym (d .0);
-      same-slot = refl
+      same-slot = refl;
     }
       where
         again : (σ : Side) → with-slot-on (drawn-place sp tally a b) σ (slot-of (picked σ a b)) ≡ drawn-place sp tally a b
@@ -193,22 +193,31 @@ module _ {K T : Type 0} (w : Kinds K T) (l : Lawful w) (s : State K T) (p₀ : �
       where
         σ : Side
         σ = side-of w (drawn-place sp tally a b) k
+
         x : Tree K T
         x = picked σ a b
+
         s₁ : State K T
         s₁ = left-queue w l s p₀ e q line
+
         write : Slot K → State K T
         write y = with-place s₁ (suc p₀) (with-slot-on (drawn-place sp tally a b) σ y)
+
         s′ : State K T
         s′ = entered w (s .requests) s₁ (suc p₀) write (e .number) k x
+
         fresh : s₁ .queue (e .number) ≡ []
         fresh = queue-there w l s p₀ e q line (e .number) (apart-eqb (e .number) (suc p₀) (λ h. omega (arith, g .0 .lined .0))) ∙ none
+
         drawn : Drawn (s₁ .place) (s₁ .queue) x
         drawn = child-drawn w l s p₀ e q line (Enter k) num R now sp tally a b n g d σ
+
         meets : Meets s₁ s′ (suc p₀) write (e .number) (enter-child w (e .number) k x)
         meets = enter-meets w (s .requests) s₁ (suc p₀) write (e .number) k (side-region w l s p₀ e q line (Enter k) num R now sp tally a b n g d σ) (e .number) x (child-writes w l s p₀ e q line (Enter k) num R now sp tally a b n g d σ) (child-good w l s p₀ e q line (Enter k) num R now sp tally a b n g d σ) drawn (child-top w l s p₀ e q line (Enter k) num R now sp tally a b n g d σ) (head-away w l s p₀ e q line (Enter k) num R now sp tally a b n g d) fresh
+
         changes : s′ .answer (e .number) ≡ Some answer.Changed → Finishes w s′ (e .number) (Enter k)
         changes h = h ∙ sym (ap (λ v. Some (cond v answer.Unchanged answer.Changed)) (ap (λ rs. was w rs (e .number) k) (meets .rest .requests) ∙ absent))
+
         same-state : moved w s (suc p₀) e (Enter k) ≡ s′
         same-state =
             ap (λ v. cond v (with-answer s₁ (e .number) answer.Unchanged) (enter-at w s₁ (e .number) (suc p₀) k (slot-for w s₁ (suc p₀) k))) undone
@@ -224,30 +233,41 @@ module _ {K T : Type 0} (w : Kinds K T) (l : Lawful w) (s : State K T) (p₀ : �
       where
         σ : Side
         σ = side-of w (drawn-place sp tally a b) k
+
         x : Tree K T
         x = picked σ a b
+
         s₁ : State K T
         s₁ = left-queue w l s p₀ e q line
+
         write : Slot K → State K T
         write y = with-place s₁ (suc p₀) (with-slot-on (drawn-place sp tally a b) σ y)
+
         s′ : State K T
         s′ = withdrawn w (s .requests) s₁ (suc p₀) write (e .number) k x
+
         drawn : Drawn (s₁ .place) (s₁ .queue) x
         drawn = child-drawn w l s p₀ e q line (Withdraw k) num R now sp tally a b n g d σ
+
         bare-lacks : (S : K → Bool) (y : Tree K T) → Good w (s .requests) S (e .number) y → S k ≡ true → slot-of y ≡ empty → ⊥
         bare-lacks S bare gy h z = true≢false (sym there ∙ gy k h)
         bare-lacks S (leaf j) gy h z = let c : _≡_ {A = ℕ} 0 1 = cc in omega arith
         bare-lacks S (node f sf v qf c d) gy h z = let c : _≡_ {A = ℕ} 0 1 = cc in omega arith
+
         not-before : before w k sp ≡ false → w .le sp k ≡ true
         not-before f = grind arith
+
         -- the key is there, so the slot on its side is not empty
         some : (c : Bool) → before w k sp ≡ c → slot-of (picked (cond c on-left on-right) a b) ≡ empty → ⊥
         some true f h = bare-lacks (left-of w R sp) a (g .2) (both-true here f) h
         some false f h = bare-lacks (right-of w R sp) b (g .3) (both-true here (not-before f)) h
+
         meets : Meets s₁ s′ (suc p₀) write (e .number) (withdraw-child w (e .number) k x)
         meets = withdraw-meets w (s .requests) s₁ (suc p₀) write (e .number) k (side-region w l s p₀ e q line (Withdraw k) num R now sp tally a b n g d σ) (e .number) x (child-writes w l s p₀ e q line (Withdraw k) num R now sp tally a b n g d σ) (child-good w l s p₀ e q line (Withdraw k) num R now sp tally a b n g d σ) drawn (child-top w l s p₀ e q line (Withdraw k) num R now sp tally a b n g d σ) (some (before w k sp) refl)
+
         changes : s′ .answer (e .number) ≡ Some answer.Changed → Finishes w s′ (e .number) (Withdraw k)
         changes h = h ∙ sym (ap (λ v. Some (cond v answer.Changed answer.Unchanged)) (ap (λ rs. was w rs (e .number) k) (meets .rest .requests) ∙ there))
+
         same-state : moved w s (suc p₀) e (Withdraw k) ≡ s′
         same-state =
             ap (λ v. cond v (withdraw-at w s₁ (e .number) (suc p₀) k (slot-for w s₁ (suc p₀) k)) (with-answer s₁ (e .number) answer.Unchanged)) undone
@@ -260,26 +280,36 @@ module _ {K T : Type 0} (w : Kinds K T) (l : Lawful w) (s : State K T) (p₀ : �
       where
         s₁ : State K T
         s₁ = left-queue w l s p₀ e q line
+
         steps : List Step
         steps = count-steps (e .mode) (w .le sp lo) (before w hi sp)
+
         s′ : State K T
         s′ = stepped-all w s₁ (e .number) lo hi (drawn-place sp tally a b) steps
+
         same-state : moved w s (suc p₀) e (Count lo hi) ≡ s′
         same-state = count-at-made w s₁ (e .number) p₀ lo hi (e .mode) (drawn-place sp tally a b) (d .0)
+
         once : (S : K → Bool) (y : Tree K T) → Good w (s .requests) S (e .number) y → Top-once y
         once S bare gy = tt
         once S (leaf j) gy = tt
         once S (node f sf v qf x y) gy = (top-left w (s .requests) S (e .number) f sf v qf x y gy, top-right w (s .requests) S (e .number) f sf v qf x y gy)
+
         away-right : Top-away a b
         away-right i h = false-unless (inside i b) (λ in-b. makers-apart w (s .requests) R sp i (inside-maker w (s .requests) (left-of w R sp) (e .number) a i (g .2) (topped-inside a i h)) (inside-maker w (s .requests) (right-of w R sp) (e .number) b i (g .3) in-b))
+
         away-left : Top-away b a
         away-left i h = false-unless (inside i a) (λ in-a. makers-apart w (s .requests) R sp i (inside-maker w (s .requests) (left-of w R sp) (e .number) a i (g .2) in-a) (inside-maker w (s .requests) (right-of w R sp) (e .number) b i (g .3) (topped-inside b i h)))
+
         left-drawn : Drawn (s₁ .place) (s₁ .queue) a
         left-drawn = child-drawn w l s p₀ e q line (Count lo hi) num R now sp tally a b n g d on-left
+
         right-drawn : Drawn (s₁ .place) (s₁ .queue) b
         right-drawn = child-drawn w l s p₀ e q line (Count lo hi) num R now sp tally a b n g d on-right
+
         did : Counts w s₁ s′ (e .number) (steps-added w lo hi steps a b) (λ i. topped a i || topped b i) × Drawn (s′ .place) (s′ .queue) (shown-pair w (e .number) steps (a, b) .0) × Drawn (s′ .place) (s′ .queue) (shown-pair w (e .number) steps (a, b) .1)
         did = steps-leave w l (e .number) lo hi (drawn-place sp tally a b) steps s₁ a b refl refl (once (left-of w R sp) a (g .2)) (once (right-of w R sp) b (g .3)) away-right away-left left-drawn right-drawn
+
         new : Drawn-anew w (s .requests) (s .place) (s′ .place) (s .queue) (s′ .queue) (suc p₀) R (moved-node w (Count lo hi) (node (suc p₀) sp tally (e ∷ q) a b))
         new = anew w (s .requests) (s .place) (s′ .place) (s .queue) (s′ .queue) (suc p₀) R now sp tally q (shown-pair w (e .number) steps (a, b) .0) (shown-pair w (e .number) steps (a, b) .1)
             (good-after w l s p₀ e q line (Count lo hi) num R now sp tally a b n g d)
@@ -287,23 +317,26 @@ module _ {K T : Type 0} (w : Kinds K T) (l : Lawful w) (s : State K T) (p₀ : �
             (did .0 .queue (suc p₀) (or-neither (topped a (suc p₀)) (topped b (suc p₀)) (child-top w l s p₀ e q line (Count lo hi) num R now sp tally a b n g d on-left) (child-top w l s p₀ e q line (Count lo hi) num R now sp tally a b n g d on-right)) ∙ queue-here w l s p₀ e q line)
             (did .1) (did .2)
             (λ i u c₁ c₂. (ap (λ f. f i) (did .0 .place), did .0 .queue i (or-neither (topped a i) (topped b i) (sym (topped-pair-left w (e .number) steps a b i) ∙ c₁) (sym (topped-pair-right w (e .number) steps a b i) ∙ c₂)) ∙ queue-there w l s p₀ e q line i u))
+
         sums : (i : ℕ) (x y : K) → numbered (s .requests) i ≡ Some (Count x y) → w .joined (s′ .counted i) (pending w (s .requests) i x y R (moved-node w (Count lo hi) (node (suc p₀) sp tally (e ∷ q) a b))) ≡ w .joined (s .counted i) (pending w (s .requests) i x y R (node (suc p₀) sp tally (e ∷ q) a b))
         sums i x y count =
             ⊎-elim
             (λ same.
-              let both : Some (Count lo hi) ≡ Some (Count x y) = sym num ∙ ap (numbered (s .requests)) (sym same) ∙ count in
-              let first : lo ≡ x = cc in
-              let second : hi ≡ y = cc in
-              subst (λ j. Adds j x y) (sym same) (subst (λ v. Adds (e .number) v y) first (subst (λ v. Adds (e .number) lo v) second own)))
+            let both : Some (Count lo hi) ≡ Some (Count x y) = sym num ∙ ap (numbered (s .requests)) (sym same) ∙ count in
+            let first : lo ≡ x = cc in
+            let second : hi ≡ y = cc in
+            subst (λ j. Adds j x y) (sym same) (subst (λ v. Adds (e .number) v y) first (subst (λ v. Adds (e .number) lo v) second own)))
             (λ differs.
-              ap (λ v. w .joined v (pending w (s .requests) i x y R after)) (did .0 .others i (apart-eqb i (e .number) differs))
-              ∙ ap (w .joined (s .counted i)) (pending-node w l (s .requests) (Count lo hi) (suc p₀) sp tally e q a b i x y R differs))
+            ap (λ v. w .joined v (pending w (s .requests) i x y R after)) (did .0 .others i (apart-eqb i (e .number) differs))
+            ∙ ap (w .joined (s .counted i)) (pending-node w l (s .requests) (Count lo hi) (suc p₀) sp tally e q a b i x y R differs))
             (cases-eq i (e .number))
           where
             after : Tree K T
             after = moved-node w (Count lo hi) (node (suc p₀) sp tally (e ∷ q) a b)
+
             Adds : ℕ → K → K → Type 0
             Adds j u v = w .joined (s′ .counted j) (pending w (s .requests) j u v R after) ≡ w .joined (s .counted j) (pending w (s .requests) j u v R (node (suc p₀) sp tally (e ∷ q) a b))
+
             own : Adds (e .number) lo hi
             own =
                 ap (λ v. w .joined v (pending w (s .requests) (e .number) lo hi R after)) (did .0 .tally)

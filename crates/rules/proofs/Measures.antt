@@ -75,7 +75,7 @@ module _ {K T : Type 0} where
     more = let u = ap length req in omega arith;
     fewer = λ i lo hi. rw (tree, now) (omega arith);
     opens = λ i lo hi. undecided-from s s′ time time′ i (omega arith) (ap (λ u. numbered u i) req) (λ e. ap (λ f. not (isSome (f i))) (sym dec) ∙ e);
-    head = λ r p e. inl (ap (λ f. heads r (f p)) que ∙ e)
+    head = λ r p e. inl (ap (λ f. heads r (f p)) que ∙ e);
   }
 
   -- a request more
@@ -85,7 +85,7 @@ module _ {K T : Type 0} where
     fewer = λ i lo hi. rw (tree, now) (omega arith);
     opens = λ i lo hi. undecided-from s s′ time time′ i (omega arith)
         (ap (λ z. numbered (z .requests) i) is ∙ numbered-append (s .requests) r i (omega arith)) (λ e. ap (λ z. not (isSome (z .decision i))) (sym is) ∙ e);
-    head = λ i p e. inl (ap (λ z. heads i (z .queue p)) is ∙ one i p e)
+    head = λ i p e. inl (ap (λ z. heads i (z .queue p)) is ∙ one i p e);
   }
     where
       one : (i p : ℕ) → heads i (s .queue p) ≡ true → heads i (joined-by s n r .queue p) ≡ true
@@ -101,7 +101,7 @@ module _ {K T : Type 0} where
     more = let u : length (s′ .requests) ≡ length (s .requests) = ap (λ z. length (z .requests)) is in omega arith;
     fewer = λ i lo hi. rw (tree, now) (omega arith);
     opens = λ i lo hi. undecided-from s s′ time time′ i (omega arith) (ap (λ z. numbered (z .requests) i) is) (λ e. one i (ap (λ z. not (isSome (z .decision i))) (sym is) ∙ e));
-    head = λ i p e. inl (ap (λ z. heads i (z .queue p)) is ∙ e)
+    head = λ i p e. inl (ap (λ z. heads i (z .queue p)) is ∙ e);
   }
     where
       one : (i : ℕ) → not (isSome (put (s .decision) r (Some d) i)) ≡ true → not (isSome (s .decision i)) ≡ true
@@ -117,15 +117,18 @@ module _ {K T : Type 0} (w : Kinds K T) (rs : List (Request K)) (s z : State K T
   move-visits = ⊎-elim down out (by .down)
     where
       down : (time′ ≡ time) × Falls m x y → Fall time time′
-      down d = subst (Fall time) (sym (d .0))
-          ( visits-mover w rs (Everywhere w rs) time time′ m x y (h .good) (h .over) good over (d .1)
-          , visits-others w rs (Everywhere w rs) time time′ m x y (h .good) (h .over) good over (by .waits) (d .1 .others) time)
+      down d = subst (Fall time) (sym (d .0)) (
+        visits-mover w rs (Everywhere w rs) time time′ m x y (h .good) (h .over) good over (d .1),
+        visits-others w rs (Everywhere w rs) time time′ m x y (h .good) (h .over) good over (by .waits) (d .1 .others) time,
+      )
+
       out : (p ≡ 0) × (m ≡ time) × (time′ ≡ suc time) × Stays m x y → Fall time time′
       out d =
           let pos : 1 ≤ m = let u = h .started in let v = d .1 in omega arith in
-          subst (Fall time) (ap suc (d .1) ∙ sym (d .2)) (subst (λ u. Fall u (suc m)) (d .1)
-          ( gate-mover w rs (Everywhere w rs) time time′ m x y (h .good) (h .over) good over pos
-          , gate-others w rs (Everywhere w rs) time time′ m x y (h .good) (h .over) good over (by .waits) (d .3)))
+          subst (Fall time) (ap suc (d .1) ∙ sym (d .2)) (subst (λ u. Fall u (suc m)) (d .1) (
+            gate-mover w rs (Everywhere w rs) time time′ m x y (h .good) (h .over) good over pos,
+            gate-others w rs (Everywhere w rs) time time′ m x y (h .good) (h .over) good over (by .waits) (d .3),
+          ))
 
   later-time : time ≤ time′
   later-time = ⊎-elim (λ d. let u = d .0 in omega arith) (λ d. let u = d .2 in omega arith) (by .down)
@@ -143,9 +146,9 @@ module _ {K T : Type 0} (w : Kinds K T) (rs : List (Request K)) (s z : State K T
         (λ e. ap (λ f. not (isSome (f i))) (sym (by .rest .decision)) ∙ ap (λ u. not (isSome (u .decision i))) (sym is) ∙ e);
     head = λ r i e. ⊎-elim
         (λ (here : i ≡ p). let same : r ≡ m = one-head (s .queue p) r m (ap (λ j. heads r (s .queue j)) (sym here) ∙ e) (by .headed) in
-            inr (subst (λ j. suc (visits time′ j y) ≤ visits time j x) (sym same) (move-visits .0)))
+        inr (subst (λ j. suc (visits time′ j y) ≤ visits time j x) (sym same) (move-visits .0)))
         (λ (away : i ≡ p → ⊥). inl (ap (λ u. heads r (u .queue i)) is ∙ by .stay i r away e))
-        (cases-eq i p)
+        (cases-eq i p);
   }
 
 module _ {K T : Type 0} (w : Kinds K T) (rs : List (Request K)) (s s′ : State K T) (x y : Tree K T) (time time′ t : ℕ) (h : Holds w rs s x time) where

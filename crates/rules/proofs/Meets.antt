@@ -97,7 +97,7 @@ module _ {K T : Type 0} (w : Kinds K T) (rs : List (Request K)) (s : State K T) 
     slot-here = sym (wr .same-slot);
     counted = refl;
     answers = λ i e. refl;
-    mover = inl (or-left (stands t (q ++ (waiter t Between ∷ []))) (waiting t a || waiting t b) (stands-append t q (waiter t Between) ∙ or-right (stands t q) (eqb t t) (same-number t)))
+    mover = inl (or-left (stands t (q ++ (waiter t Between ∷ []))) (waiting t a || waiting t b) (stands-append t q (waiter t Between) ∙ or-right (stands t q) (eqb t t) (same-number t)));
   }
     where
       same-number : (i : ℕ) → eqb i i ≡ true
@@ -114,7 +114,7 @@ module _ {K T : Type 0} (w : Kinds K T) (rs : List (Request K)) (s : State K T) 
     slot-here = ap (λ z. write z .slot) (sym e);
     counted = wr .counted y;
     answers = λ i u. put-other (write y .answer) t (Some answer.Changed) i u ∙ ap (λ g. g i) (wr .answer y);
-    mover = inr (put-here (write y .answer) t (Some answer.Changed))
+    mover = inr (put-here (write y .answer) t (Some answer.Changed));
   }
 
   pub enter-meets : (R : K → Bool) (now : ℕ) (x : Tree K T) → Writes s p write (slot-of x) → Good w rs R now x → Drawn (s .place) (s .queue) x
@@ -129,7 +129,7 @@ module _ {K T : Type 0} (w : Kinds K T) (rs : List (Request K)) (s : State K T) 
     slot-here = refl;
     counted = wr .counted (leads t);
     answers = λ i u. put-other (write (leads t) .answer) t (Some answer.Changed) i u ∙ ap (λ g. g i) (wr .answer (leads t));
-    mover = inr (put-here (write (leads t) .answer) t (Some answer.Changed))
+    mover = inr (put-here (write (leads t) .answer) t (Some answer.Changed));
   }
   enter-meets R now (node f split tally q a b) wr g d top away none = joins R now f split tally (w .joined tally (w .weighed k)) q a b wr g d top
 

@@ -86,10 +86,13 @@ module _ {K T : Type 0} (w : Kinds K T) (l : Lawful w) where
       (g : Good w rs R t (node p s tally (e ∷ q) a b)) (n : t ≤ suc (length rs)) where
     far : (e .number < below q t) × (below q t ≤ t)
     far = lined-below (e .number) q t (g .0 .lined .1)
+
     quiet : Still w rs R (suc (e .number)) (below q t)
     quiet = still-behind w rs R t p s tally e q (g .0)
+
     quiet-left : Still w rs (left-of w R s) (suc (e .number)) (below q t)
     quiet-left = still-within w l rs R (left-of w R s) (suc (e .number)) (below q t) (left-in w R s) quiet
+
     quiet-right : Still w rs (right-of w R s) (suc (e .number)) (below q t)
     quiet-right = still-within w l rs R (right-of w R s) (suc (e .number)) (below q t) (right-in w R s) quiet
 
@@ -105,37 +108,50 @@ module _ {K T : Type 0} (w : Kinds K T) (l : Lawful w) where
 
     pair-entered : (k : K) → numbered rs (e .number) ≡ Some (Enter k) → R k ≡ true → was w rs (e .number) k ≡ false
         → (c : Bool) → before w k s ≡ c → Pair-good (cond c (enter-child w (e .number) k a, b) (a, enter-child w (e .number) k b))
-    pair-entered k num here absent true f =
-        ( over-enter w p (e .number) k a (g .0 .lined .0) (g .1 .0) , g .1 .1
-        , child-entered w l rs (left-of w R s) (e .number) (below q t) (far .0) quiet-left k num (both-true here f) absent a (g .2)
-        , stays-right (Enter k) num (λ x r. rw (other-right R s k x f r)))
-    pair-entered k num here absent false f =
-        ( g .1 .0 , over-enter w p (e .number) k b (g .0 .lined .0) (g .1 .1)
-        , stays-left (Enter k) num (λ x r. rw (other-left R s k x f r))
-        , child-entered w l rs (right-of w R s) (e .number) (below q t) (far .0) quiet-right k num (both-true here (grind arith)) absent b (g .3))
+    pair-entered k num here absent true f = (
+      over-enter w p (e .number) k a (g .0 .lined .0) (g .1 .0),
+      g .1 .1,
+      child-entered w l rs (left-of w R s) (e .number) (below q t) (far .0) quiet-left k num (both-true here f) absent a (g .2),
+      stays-right (Enter k) num (λ x r. rw (other-right R s k x f r)),
+    )
+    pair-entered k num here absent false f = (
+      g .1 .0,
+      over-enter w p (e .number) k b (g .0 .lined .0) (g .1 .1),
+      stays-left (Enter k) num (λ x r. rw (other-left R s k x f r)),
+      child-entered w l rs (right-of w R s) (e .number) (below q t) (far .0) quiet-right k num (both-true here (grind arith)) absent b (g .3),
+    )
 
     pair-withdrawn : (k : K) → numbered rs (e .number) ≡ Some (Withdraw k) → R k ≡ true → was w rs (e .number) k ≡ true
         → (c : Bool) → before w k s ≡ c → Pair-good (cond c (withdraw-child w (e .number) k a, b) (a, withdraw-child w (e .number) k b))
-    pair-withdrawn k num here there true f =
-        ( over-withdraw w p (e .number) k a (g .1 .0) , g .1 .1
-        , child-withdrawn w l rs (left-of w R s) (e .number) (below q t) (far .0) quiet-left k num (both-true here f) there a (g .2)
-        , stays-right (Withdraw k) num (λ x r. rw (other-right R s k x f r)))
-    pair-withdrawn k num here there false f =
-        ( g .1 .0 , over-withdraw w p (e .number) k b (g .1 .1)
-        , stays-left (Withdraw k) num (λ x r. rw (other-left R s k x f r))
-        , child-withdrawn w l rs (right-of w R s) (e .number) (below q t) (far .0) quiet-right k num (both-true here (grind arith)) there b (g .3))
+    pair-withdrawn k num here there true f = (
+      over-withdraw w p (e .number) k a (g .1 .0),
+      g .1 .1,
+      child-withdrawn w l rs (left-of w R s) (e .number) (below q t) (far .0) quiet-left k num (both-true here f) there a (g .2),
+      stays-right (Withdraw k) num (λ x r. rw (other-right R s k x f r)),
+    )
+    pair-withdrawn k num here there false f = (
+      g .1 .0,
+      over-withdraw w p (e .number) k b (g .1 .1),
+      stays-left (Withdraw k) num (λ x r. rw (other-left R s k x f r)),
+      child-withdrawn w l rs (right-of w R s) (e .number) (below q t) (far .0) quiet-right k num (both-true here (grind arith)) there b (g .3),
+    )
 
     module _ (lo hi : K) (num : numbered rs (e .number) ≡ Some (Count lo hi)) where
       still-left : Good w rs (left-of w R s) (below q t) a
       still-left = stays-left (Count lo hi) num (λ k r. refl)
+
       still-right : Good w rs (right-of w R s) (below q t) b
       still-right = stays-right (Count lo hi) num (λ k r. refl)
+
       show-left : (m : Mode) → Mode-fits w (left-of w R s) lo hi m → Good w rs (left-of w R s) (below q t) (count-child w (e .number) m a)
       show-left m fit = child-counted w l rs (left-of w R s) (e .number) (below q t) (far .0) quiet-left lo hi num m a fit (g .2)
+
       show-right : (m : Mode) → Mode-fits w (right-of w R s) lo hi m → Good w rs (right-of w R s) (below q t) (count-child w (e .number) m b)
       show-right m fit = child-counted w l rs (right-of w R s) (e .number) (below q t) (far .0) quiet-right lo hi num m b fit (g .3)
+
       up-left : (m : Mode) → Over p (count-child w (e .number) m a)
       up-left m = over-count w p (e .number) m a (g .1 .0)
+
       up-right : (m : Mode) → Over p (count-child w (e .number) m b)
       up-right m = over-count w p (e .number) m b (g .1 .1)
 
@@ -144,10 +160,12 @@ module _ {K T : Type 0} (w : Kinds K T) (l : Lawful w) where
           (g .1 .0, up-right Between, still-left, show-right Between (both-true (fit .0) f, λ z. both-true (fit .1 z) (l .transitive s lo hi f z)))
       pair-counted Between fit false true f h =
           (up-left Between, g .1 .1, show-left Between (both-true (fit .0) (ap not f), λ z. both-true (fit .1 z) h), still-right)
-      pair-counted Between fit false false f h =
-          ( up-left From , up-right Upto
-          , show-left From (both-true (fit .0) (ap not f), λ k r. from-left R s hi k h r)
-          , show-right Upto (both-true (fit .1 (l .transitive lo s hi (l .total s lo f) (not-before w s hi h))) (not-before w s hi h), λ k r. upto-right R s lo k f r))
+      pair-counted Between fit false false f h = (
+        up-left From,
+        up-right Upto,
+        show-left From (both-true (fit .0) (ap not f), λ k r. from-left R s hi k h r),
+        show-right Upto (both-true (fit .1 (l .transitive lo s hi (l .total s lo f) (not-before w s hi h))) (not-before w s hi h), λ k r. upto-right R s lo k f r),
+      )
       pair-counted From fit true d f h =
           (g .1 .0, up-right From, still-left, show-right From (both-true (fit .0) f, λ k r. fit .1 k (right-in w R s k r)))
       pair-counted From fit false d f h =

@@ -90,7 +90,7 @@ module _ {K T : Type 0} (w : Kinds K T) (l : Lawful w) (s : State K T) (x : Tree
       waits = λ i other. refl;
       pends = λ i lo hi other. refl;
       counts = λ lo hi is. absurd (right lo hi is);
-      stays = stays-same time x
+      stays = stays-same time x;
     }
 
   -- it meets the tree under the gate
@@ -111,11 +111,12 @@ module _ {K T : Type 0} (w : Kinds K T) (l : Lawful w) (s : State K T) (x : Tree
       waits = waits;
       pends = pends;
       counts = λ lo hi is. absurd (right lo hi is);
-      stays = stays
+      stays = stays;
     }
       where
         flat : (i : ℕ) → inside i c ≡ false → topped c i ≡ false
         flat i out = false-unless (topped c i) (λ e. true≢false (sym (topped-inside c i e) ∙ out))
+
         others : (i : ℕ) → inside i c ≡ false → (s′ .place i ≡ None) × (0 < i → s′ .queue i ≡ [])
         others i out =
             let old = outside-left i (grown i out) in
@@ -132,7 +133,7 @@ module _ {K T : Type 0} (w : Kinds K T) (l : Lawful w) (s : State K T) (x : Tree
     answer = λ y. refl;
     counted = λ y. refl;
     same-place = refl;
-    same-slot = sym (h .rooted)
+    same-slot = sym (h .rooted);
   }
 
   top-gate : topped x 0 ≡ false
@@ -198,25 +199,32 @@ module _ {K T : Type 0} (w : Kinds K T) (l : Lawful w) (s : State K T) (x : Tree
 
   module _ (k : K) (num : numbered (s .requests) time ≡ Some (Enter k)) (dec : s .decision time ≡ Some (was w (s .requests) time k)) where
     enter-passes : (b : Bool) → was w (s .requests) time k ≡ b → (y : Tree K T) × Passes w s x time (Enter k) (acted w left time 0 m (Enter k)) y
-    enter-passes true is =
-        (x, subst (λ st. Passes w s x time (Enter k) st x)
-            (sym (ap (λ v. cond v (with-answer left time answer.Unchanged) (enter-at w left time 0 k (s .slot))) (ap is-present (dec ∙ ap Some is))))
-            (stays-out w l s x time h (Enter k) num answer.Unchanged (enter-settled w l (s .requests) time k num is) (λ lo hi no-such. let z : _≡_ {A = ℕ} 0 1 = cc in omega arith)
-              (put-here (s .answer) time (Some answer.Unchanged) ∙ sym (ap (λ v. Some (cond v answer.Unchanged answer.Changed)) is))))
-    enter-passes false is =
-        (enter-child w time k x, subst (λ st. Passes w s x time (Enter k) st (enter-child w time k x)) (sym same-state)
-            (goes-in w l s x time h (Enter k) num met (enter-child w time k x) meets (λ lo hi no-such. let z : _≡_ {A = ℕ} 0 1 = cc in omega arith)
-              (child-entered w l (s .requests) any time (suc time) (omega arith) (still-now w l s x time h (Enter k) num) k num refl is x (h .good))
-              (over-enter w 0 time k x (h .started) (h .over)) (grown-enter w time k x)
-              (λ done. done ∙ sym (ap (λ v. Some (cond v answer.Unchanged answer.Changed)) is))
-              (waits-enter w time k x) (λ i lo hi other. pending-enter w l (s .requests) time k x i lo hi any other) (stays-enter w time k x)))
+    enter-passes true is = (
+      x,
+      subst (λ st. Passes w s x time (Enter k) st x)
+          (sym (ap (λ v. cond v (with-answer left time answer.Unchanged) (enter-at w left time 0 k (s .slot))) (ap is-present (dec ∙ ap Some is))))
+          (stays-out w l s x time h (Enter k) num answer.Unchanged (enter-settled w l (s .requests) time k num is) (λ lo hi no-such. let z : _≡_ {A = ℕ} 0 1 = cc in omega arith)
+          (put-here (s .answer) time (Some answer.Unchanged) ∙ sym (ap (λ v. Some (cond v answer.Unchanged answer.Changed)) is))),
+    )
+    enter-passes false is = (
+      enter-child w time k x,
+      subst (λ st. Passes w s x time (Enter k) st (enter-child w time k x)) (sym same-state)
+          (goes-in w l s x time h (Enter k) num met (enter-child w time k x) meets (λ lo hi no-such. let z : _≡_ {A = ℕ} 0 1 = cc in omega arith)
+          (child-entered w l (s .requests) any time (suc time) (omega arith) (still-now w l s x time h (Enter k) num) k num refl is x (h .good))
+          (over-enter w 0 time k x (h .started) (h .over)) (grown-enter w time k x)
+          (λ done. done ∙ sym (ap (λ v. Some (cond v answer.Unchanged answer.Changed)) is))
+          (waits-enter w time k x) (λ i lo hi other. pending-enter w l (s .requests) time k x i lo hi any other) (stays-enter w time k x)),
+    )
       where
         met : State K T
         met = entered w (s .requests) left 0 (with-gate left) time k x
+
         drawn : Drawn (left .place) (left .queue) x
         drawn = drawn-left w l s x time h (Enter k) num
+
         meets : Meets left met 0 (with-gate left) time (enter-child w time k x)
         meets = enter-meets w (s .requests) left 0 (with-gate left) time k any time x (gate-writes w l s x time h (Enter k) num) (h .good) drawn (top-gate w l s x time h (Enter k) num) (gate-apart w l s x time h (Enter k) num) (none-there w l s x time h (Enter k) num)
+
         same-state : acted w left time 0 m (Enter k) ≡ met
         same-state =
             ap (λ v. cond v (with-answer left time answer.Unchanged) (enter-at w left time 0 k (s .slot))) (ap is-present (dec ∙ ap Some is))
@@ -225,29 +233,37 @@ module _ {K T : Type 0} (w : Kinds K T) (l : Lawful w) (s : State K T) (x : Tree
 
   module _ (k : K) (num : numbered (s .requests) time ≡ Some (Withdraw k)) (dec : s .decision time ≡ Some (was w (s .requests) time k)) where
     withdraw-passes : (b : Bool) → was w (s .requests) time k ≡ b → (y : Tree K T) × Passes w s x time (Withdraw k) (acted w left time 0 m (Withdraw k)) y
-    withdraw-passes false is =
-        (x, subst (λ st. Passes w s x time (Withdraw k) st x)
-            (sym (ap (λ v. cond v (withdraw-at w left time 0 k (s .slot)) (with-answer left time answer.Unchanged)) (ap is-present (dec ∙ ap Some is))))
-            (stays-out w l s x time h (Withdraw k) num answer.Unchanged (withdraw-settled w l (s .requests) time k num is) (λ lo hi no-such. let z : _≡_ {A = ℕ} 0 1 = cc in omega arith)
-              (put-here (s .answer) time (Some answer.Unchanged) ∙ sym (ap (λ v. Some (cond v answer.Changed answer.Unchanged)) is))))
-    withdraw-passes true is =
-        (withdraw-child w time k x, subst (λ st. Passes w s x time (Withdraw k) st (withdraw-child w time k x)) (sym same-state)
-            (goes-in w l s x time h (Withdraw k) num met (withdraw-child w time k x) meets (λ lo hi no-such. let z : _≡_ {A = ℕ} 0 1 = cc in omega arith)
-              (child-withdrawn w l (s .requests) any time (suc time) (omega arith) (still-now w l s x time h (Withdraw k) num) k num refl is x (h .good))
-              (over-withdraw w 0 time k x (h .over)) (grown-withdraw w time k x)
-              (λ done. done ∙ sym (ap (λ v. Some (cond v answer.Changed answer.Unchanged)) is))
-              (waits-withdraw w time k x) (λ i lo hi other. pending-withdraw w l (s .requests) time k x i lo hi any other) (stays-withdraw w time k x)))
+    withdraw-passes false is = (
+      x,
+      subst (λ st. Passes w s x time (Withdraw k) st x)
+          (sym (ap (λ v. cond v (withdraw-at w left time 0 k (s .slot)) (with-answer left time answer.Unchanged)) (ap is-present (dec ∙ ap Some is))))
+          (stays-out w l s x time h (Withdraw k) num answer.Unchanged (withdraw-settled w l (s .requests) time k num is) (λ lo hi no-such. let z : _≡_ {A = ℕ} 0 1 = cc in omega arith)
+          (put-here (s .answer) time (Some answer.Unchanged) ∙ sym (ap (λ v. Some (cond v answer.Changed answer.Unchanged)) is))),
+    )
+    withdraw-passes true is = (
+      withdraw-child w time k x,
+      subst (λ st. Passes w s x time (Withdraw k) st (withdraw-child w time k x)) (sym same-state)
+          (goes-in w l s x time h (Withdraw k) num met (withdraw-child w time k x) meets (λ lo hi no-such. let z : _≡_ {A = ℕ} 0 1 = cc in omega arith)
+          (child-withdrawn w l (s .requests) any time (suc time) (omega arith) (still-now w l s x time h (Withdraw k) num) k num refl is x (h .good))
+          (over-withdraw w 0 time k x (h .over)) (grown-withdraw w time k x)
+          (λ done. done ∙ sym (ap (λ v. Some (cond v answer.Changed answer.Unchanged)) is))
+          (waits-withdraw w time k x) (λ i lo hi other. pending-withdraw w l (s .requests) time k x i lo hi any other) (stays-withdraw w time k x)),
+    )
       where
         met : State K T
         met = withdrawn w (s .requests) left 0 (with-gate left) time k x
+
         drawn : Drawn (left .place) (left .queue) x
         drawn = drawn-left w l s x time h (Withdraw k) num
+
         some : (y : Tree K T) → Good w (s .requests) any time y → slot-of y ≡ empty → ⊥
         some bare g z = true≢false (sym is ∙ g k refl)
         some (leaf j) g z = let c : _≡_ {A = ℕ} 0 1 = cc in omega arith
         some (node f sf v qf c d) g z = let c : _≡_ {A = ℕ} 0 1 = cc in omega arith
+
         meets : Meets left met 0 (with-gate left) time (withdraw-child w time k x)
         meets = withdraw-meets w (s .requests) left 0 (with-gate left) time k any time x (gate-writes w l s x time h (Withdraw k) num) (h .good) drawn (top-gate w l s x time h (Withdraw k) num) (some x (h .good))
+
         same-state : acted w left time 0 m (Withdraw k) ≡ met
         same-state =
             ap (λ v. cond v (withdraw-at w left time 0 k (s .slot)) (with-answer left time answer.Unchanged)) (ap is-present (dec ∙ ap Some is))
@@ -267,28 +283,35 @@ module _ {K T : Type 0} (w : Kinds K T) (l : Lawful w) (s : State K T) (x : Tree
       waits = waits-count w time Between x;
       pends = λ i lo₁ hi₁ other. pending-count w l (s .requests) time Between x i lo₁ hi₁ any other;
       counts = λ lo₁ hi₁ is. let a : lo ≡ lo₁ = cc in let b : hi ≡ hi₁ = cc in subst (λ v. Adds v hi₁) a (subst (Adds lo) b own);
-      stays = stays-count w time Between x
+      stays = stays-count w time Between x;
     }
       where
         after : State K T
         after = shown w left time lo hi Between (slot-of x)
+
         same-state : acted w left time 0 m (Count lo hi) ≡ after
         same-state = ap (shown w left time lo hi Between) (h .rooted)
+
         did : Counts w left after time (added w lo hi Between x) (topped x)
         did = shown-counts w l time lo hi left Between x
+
         once : (y : Tree K T) → Good w (s .requests) any time y → Top-once y
         once bare g = tt
         once (leaf j) g = tt
         once (node f sf v qf c d) g = (top-left w (s .requests) any time f sf v qf c d g, top-right w (s .requests) any time f sf v qf c d g)
+
         flat : (i : ℕ) → inside i x ≡ false → topped x i ≡ false
         flat i out = false-unless (topped x i) (λ e. true≢false (sym (topped-inside x i e) ∙ out))
+
         others : (i : ℕ) → inside i (count-child w time Between x) ≡ false → (after .place i ≡ None) × (0 < i → after .queue i ≡ [])
         others i out =
             let inner = grown-count w time Between x i out in
             let old = outside-left w l s x time h (Count lo hi) num i inner in
             (ap (λ f. f i) (did .place) ∙ old .0, λ z. did .queue i (flat i inner) ∙ old .1 z)
+
         Adds : K → K → Type 0
         Adds u v = w .joined (after .counted time) (pending w (s .requests) time u v any (count-child w time Between x)) ≡ weight-of w (within w u v) (set-before w (s .requests) time)
+
         own : Adds lo hi
         own =
             ap (λ v. w .joined v (pending w (s .requests) time lo hi any (count-child w time Between x))) (did .tally ∙ ap (λ v. w .joined v (added w lo hi Between x)) (h .uncounted time (omega arith)) ∙ l .neutral (added w lo hi Between x))

@@ -72,9 +72,11 @@ others-keep v v′ o o′ h h′ (note.Saw r p) t a b f = go (h r p) refl (h′ 
   where
     sums : sum-to (term v′ o′ (note.Saw r p)) t ≤ sum-to (term v o (note.Saw r p)) t
     sums = all-less v v′ o o′ (note.Saw r p) (note.Saw r p) t a b (λ i. omega arith)
+
     less : suc (v′ r) ≤ v r → sum-to (term v′ o′ (note.Saw r p)) t + 2 ≤ sum-to (term v o (note.Saw r p)) t
     less lt = one-falls v v′ o o′ (note.Saw r p) (note.Saw r p) t r 2 (f .0) (f .1) a b (λ i ne. omega arith)
         (let u : cond (o′ r) (suc r) 0 ≤ cond (o r) (suc r) 0 = cond-less (o′ r) (o r) (suc r) (suc r) (b r (f .0) (f .1)) (omega arith) in omega arith)
+
     go : (c : Bool) → h r p ≡ c → (d : Bool) → h′ r p ≡ d → sum-to (term v′ o′ (note.Saw r p)) t + cond (h′ r p) 0 2 ≤ sum-to (term v o (note.Saw r p)) t + cond (h r p) 0 2
     go c e true g = rw (e, g) (omega (arith, sums))
     go false e false g = rw (e, g) (omega (arith, sums))
@@ -83,11 +85,12 @@ others-keep v v′ o o′ h h′ (note.Walk r p) t a b f = go (o r) refl (o′ r
   where
     sums : sum-to (term v′ o′ (note.Walk r p)) t ≤ sum-to (term v o (note.Walk r p)) t
     sums = all-less v v′ o o′ (note.Walk r p) (note.Walk r p) t a b (λ i. omega arith)
+
     go : (c : Bool) → o r ≡ c → (d : Bool) → o′ r ≡ d → sum-to (term v′ o′ (note.Walk r p)) t + cond (o′ r) 1 2 ≤ sum-to (term v o (note.Walk r p)) t + cond (o r) 1 2
     go true e true g = rw (e, g) (omega (arith, sums))
     go false e true g = rw (e, g) (omega (arith, sums))
     go false e false g = rw (e, g) (omega (arith, sums))
     go true e false g =
         let less = one-falls v v′ o o′ (note.Walk r p) (note.Walk r p) t r 1 (f .0) (f .1) a b (λ i ne. omega arith)
-              (let lt = f .2 e in let n = a r (f .0) (f .1) in rw (e, g, eq-eqb r r refl) (omega arith)) in
+        (let lt = f .2 e in let n = a r (f .0) (f .1) in rw (e, g, eq-eqb r r refl) (omega arith)) in
         rw (e, g) (omega arith)

@@ -11,7 +11,8 @@ use Rattle.rules.proofs.Listing.{reading-plain}
 pub register-laws : {K T : Type 0} (w : Kinds K T) → Lawful w → Register-laws w
 register-laws w l cells cs =
     let held = run-holds w (stepper w l) cells cs in
-    let own = own-requests w (run w cells cs) held in
-    ( answers-plain w l (run w cells cs) (own .0) (own .1) (own .2)
-    , run-service-ends w (stepper w l) cells cs
-    , reading-plain w l (run w cells cs) (own .0) (own .1) (own .2))
+    let own = own-requests w (run w cells cs) held in (
+      answers-plain w l (run w cells cs) (own .0) (own .1) (own .2),
+      run-service-ends w (stepper w l) cells cs,
+      reading-plain w l (run w cells cs) (own .0) (own .1) (own .2),
+    )

@@ -93,7 +93,7 @@ module _ {K T : Type 0} (w : Kinds K T) where
     same = λ x e. e;
     entered = λ k x. grown-enter t k x i;
     withdrawn = λ k x. grown-withdraw t k x i;
-    counted = λ m x. grown-count t m x i
+    counted = λ m x. grown-count t m x i;
   }
 
   pub grown-node : (r : Request K) (p : ℕ) (s : K) (tally : T) (q : List Waiter) (a b : Tree K T) (i : ℕ) → inside i (moved-node w r (node p s tally q a b)) ≡ false → inside i (node p s tally q a b) ≡ false
@@ -127,7 +127,7 @@ module _ {K T : Type 0} (w : Kinds K T) where
     same = λ x. refl;
     entered = λ k x. waits-enter t k x i other;
     withdrawn = λ k x. waits-withdraw t k x i other;
-    counted = λ m x. waits-count t m x i other
+    counted = λ m x. waits-count t m x i other;
   }
 
   pub waits-node : (r : Request K) (p : ℕ) (s : K) (tally : T) (e : Waiter) (q : List Waiter) (a b : Tree K T) (i : ℕ) → (i ≡ e .number → ⊥) → waiting i (moved-node w r (node p s tally (e ∷ q) a b)) ≡ waiting i (node p s tally (e ∷ q) a b)
@@ -146,7 +146,7 @@ module _ {K T : Type 0} (w : Kinds K T) (l : Lawful w) (rs : List (Request K)) w
   queue-share-append i lo hi R [] e = l .commutative (share w rs i lo hi R e) (w .none)
   queue-share-append i lo hi R (x ∷ q) e =
       ap (w .joined (share w rs i lo hi R x)) (queue-share-append i lo hi R q e)
-        ∙ sym (l .associative (share w rs i lo hi R x) (queue-share w rs i lo hi R q) (share w rs i lo hi R e))
+      ∙ sym (l .associative (share w rs i lo hi R x) (queue-share w rs i lo hi R q) (share w rs i lo hi R e))
 
   -- one more at the end, with another number
   share-beside : (i : ℕ) (lo hi : K) (R : K → Bool) (q : List Waiter) (e : Waiter) → (i ≡ e .number → ⊥) → queue-share w rs i lo hi R (q ++ (e ∷ [])) ≡ queue-share w rs i lo hi R q
@@ -179,7 +179,7 @@ module _ {K T : Type 0} (w : Kinds K T) (l : Lawful w) (rs : List (Request K)) w
     same = λ x. refl;
     entered = λ k x. pending-enter t k x i lo hi R other;
     withdrawn = λ k x. pending-withdraw t k x i lo hi R other;
-    counted = λ m x. pending-count t m x i lo hi R other
+    counted = λ m x. pending-count t m x i lo hi R other;
   }
 
   pub pending-node : (r : Request K) (p : ℕ) (s : K) (tally : T) (e : Waiter) (q : List Waiter) (a b : Tree K T) (i : ℕ) (lo hi : K) (R : K → Bool) → (i ≡ e .number → ⊥) → pending w rs i lo hi R (moved-node w r (node p s tally (e ∷ q) a b)) ≡ pending w rs i lo hi R (node p s tally (e ∷ q) a b)
@@ -187,9 +187,9 @@ module _ {K T : Type 0} (w : Kinds K T) (l : Lawful w) (rs : List (Request K)) w
       let one = left-moved w (e .number) (λ y z. pending w rs i lo hi (left-of w R s) z ≡ pending w rs i lo hi (left-of w R s) y) (pending-left (e .number) i lo hi (left-of w R s) other) r (e .mode) s a b in
       let two = right-moved w (e .number) (λ y z. pending w rs i lo hi (right-of w R s) z ≡ pending w rs i lo hi (right-of w R s) y) (pending-left (e .number) i lo hi (right-of w R s) other) r (e .mode) s a b in
       let here : queue-share w rs i lo hi R q ≡ queue-share w rs i lo hi R (e ∷ q) =
-            sym (ap (λ v. w .joined v (queue-share w rs i lo hi R q)) (share-other i lo hi R e other) ∙ l .neutral (queue-share w rs i lo hi R q)) in
+      sym (ap (λ v. w .joined v (queue-share w rs i lo hi R q)) (share-other i lo hi R e other) ∙ l .neutral (queue-share w rs i lo hi R q)) in
       ap₂ (λ u v. w .joined (queue-share w rs i lo hi R q) (w .joined u v)) one two
-        ∙ ap (λ v. w .joined v (w .joined (pending w rs i lo hi (left-of w R s) a) (pending w rs i lo hi (right-of w R s) b))) here
+      ∙ ap (λ v. w .joined v (w .joined (pending w rs i lo hi (left-of w R s) a) (pending w rs i lo hi (right-of w R s) b))) here
 
 module _ {K T : Type 0} (w : Kinds K T) (rs : List (Request K)) where
   -- what the request of that number says of a key
@@ -236,18 +236,19 @@ module _ {K T : Type 0} (w : Kinds K T) (rs : List (Request K)) where
     same = λ x o. o;
     entered = λ j x. ways-enter t j x k i n;
     withdrawn = λ j x. ways-withdraw t j x k i n;
-    counted = λ m x. ways-count t m x k i n
+    counted = λ m x. ways-count t m x k i n;
   }
 
   pub ways-node : (r : Request K) (p : ℕ) (s : K) (tally : T) (e : Waiter) (q : List Waiter) (a b : Tree K T) (k : K) (i : ℕ) → numbered rs (e .number) ≡ Some r → On-way w rs k i (node p s tally (e ∷ q) a b) → On-way w rs k i (moved-node w r (node p s tally (e ∷ q) a b))
   ways-node r p s tally e q a b k i num o =
       ⊎-elim inl
       (λ h.
-        let both = later-none (last-word w rs k q) (word-of k (e .number)) (h .0) in
-        inr
-        ( both .0
-        , bool-map (before w k s)
-          (left-moved w (e .number) (λ x y. On-way w rs k i x → On-way w rs k i y) (ways-left (e .number) k i (both .1)) r (e .mode) s a b)
-          (right-moved w (e .number) (λ x y. On-way w rs k i x → On-way w rs k i y) (ways-left (e .number) k i (both .1)) r (e .mode) s a b)
-          (h .1)))
+      let both = later-none (last-word w rs k q) (word-of k (e .number)) (h .0) in
+      inr (
+        both .0,
+        bool-map (before w k s)
+            (left-moved w (e .number) (λ x y. On-way w rs k i x → On-way w rs k i y) (ways-left (e .number) k i (both .1)) r (e .mode) s a b)
+            (right-moved w (e .number) (λ x y. On-way w rs k i x → On-way w rs k i y) (ways-left (e .number) k i (both .1)) r (e .mode) s a b)
+            (h .1),
+      ))
       o

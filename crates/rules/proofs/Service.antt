@@ -62,9 +62,9 @@ module _ {K T : Type 0} (w : Kinds K T) (step : Stepper w) where
       with-a-note old desk has v =
           subst (Turned old) (sym (ap (λ o. state-by o s (rule.carried w s n (s .desk n .note) .1)) free ∙ ap (λ u. rule.carried w s n u .1) desk))
           (let c = carries w step rs s x time h n old desk in
-           let ok = deed-gentle w rs s (rule.carried w s n old .1) x (c .0) time (c .1) t h n old (c .2) (c .3) in
-           let more = ok .more in
-           (c .0, c .1, c .2, omega arith, deed-lowers w rs s x time h n t le (rule.carried w s n old .1) (c .0) (c .1) old (c .2) desk has v (c .3)))
+          let ok = deed-gentle w rs s (rule.carried w s n old .1) x (c .0) time (c .1) t h n old (c .2) (c .3) in
+          let more = ok .more in
+          (c .0, c .1, c .2, omega arith, deed-lowers w rs s x time h n t le (rule.carried w s n old .1) (c .0) (c .1) old (c .2) desk has v (c .3)))
         where
           free : carry-refusal w s n ≡ None
           free = rw (station, desk, has)
@@ -76,14 +76,16 @@ module _ {K T : Type 0} (w : Kinds K T) (step : Stepper w) where
           let v = head-sooner w rs s x time h t (u .0) (u .2) in
           let place : followed-place w s t ≡ u .0 = ap (λ o. elim o as (λ _. ℕ) [ None ↦ 0 | Some p ↦ p ]) (u .1) in
           let first : followed-head w s t ≡ v .0 =
-                ap (λ p. elim (head-of (s .queue p)) as (λ _. ℕ) [ None ↦ 0 | Some r ↦ r ]) place ∙ ap (λ o. elim o as (λ _. ℕ) [ None ↦ 0 | Some r ↦ r ]) (v .1) in
+          ap (λ p. elim (head-of (s .queue p)) as (λ _. ℕ) [ None ↦ 0 | Some r ↦ r ]) place ∙ ap (λ o. elim o as (λ _. ℕ) [ None ↦ 0 | Some r ↦ r ]) (v .1) in
           subst (Turned note.None)
           (sym (ap (λ o. state-by o s (with-note s n (note.Saw (followed-head w s t) (followed-place w s t)))) (free t pos le e)
-            ∙ ap (λ r. with-note s n (note.Saw r (followed-place w s t))) first ∙ ap (λ p. with-note s n (note.Saw (v .0) p)) place))
-          ( x , time
-          , step .desks rs x time s h n _ (λ i p f. let z : _≡_ {A = ℕ} 0 1 = cc in absurd (omega arith))
-          , le
-          , follow-lowers w rs s x time h n t le (v .0) (u .0) (v .2) (v .3) (v .4))
+          ∙ ap (λ r. with-note s n (note.Saw r (followed-place w s t))) first ∙ ap (λ p. with-note s n (note.Saw (v .0) p)) place)) (
+            x,
+            time,
+            step .desks rs x time s h n _ (λ i p f. let z : _≡_ {A = ℕ} 0 1 = cc in absurd (omega arith)),
+            le,
+            follow-lowers w rs s x time h n t le (v .0) (u .0) (v .2) (v .3) (v .4),
+          )
         where
           free : (i : ℕ) → 1 ≤ i → i ≤ given s → finished s i ≡ false → follow-refusal w s n i ≡ None
           free zero low high f = absurd (omega arith)
@@ -134,18 +136,18 @@ module _ {K T : Type 0} (w : Kinds K T) (step : Stepper w) where
         ⊎-elim
         (λ e. e)
         (λ (e : finished s t ≡ false).
-          let some = unfinished-visits w rs s x time h t pos e in
-          let two = at-least (λ i. visits time i x) (undecided s time) (λ r p. heads r (s .queue p)) old t pos some in
-          absurd (omega arith))
+        let some = unfinished-visits w rs s x time h t pos e in
+        let two = at-least (λ i. visits time i x) (undecided s time) (λ r p. heads r (s .queue p)) old t pos some in
+        absurd (omega arith))
         (cases-bool (finished s t))
     serve (c ∷ cs) rs s x time h le old desk v all bound =
         ⊎-elim
         (λ (e : finished s t ≡ true). stays-finished t pos (c ∷ cs) rs s x time h le e)
         (λ (e : finished s t ≡ false).
-          ⊎-elim
-          (own c cs (serve cs) rs s x time h le old desk v all bound e)
-          (other c cs (serve cs) rs s x time h le old desk v all bound)
-          (cases-bool (eqb (caller c) n)))
+        ⊎-elim
+        (own c cs (serve cs) rs s x time h le old desk v all bound e)
+        (other c cs (serve cs) rs s x time h le old desk v all bound)
+        (cases-bool (eqb (caller c) n)))
         (cases-bool (finished s t))
 
   -- the service ends in every state that has the invariant

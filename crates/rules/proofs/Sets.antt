@@ -50,10 +50,11 @@ module _ {K T : Type 0} (w : Kinds K T) (l : Lawful w) where
       behind : w .le k x ≡ false → All-behind w x (with-key w k xs)
       behind e =
           has-all-behind x (with-key w k xs)
-            (λ j f.
-              let g = has-with-key j k xs in
-              let b = behind-has x j xs (h .0) in
-              grind (arith, same-eq w l j k))
+          (λ j f.
+          let g = has-with-key j k xs in
+          let b = behind-has x j xs (h .0) in
+          grind (arith, same-eq w l j k))
+
       go : Ascends w (with-key w k xs) → (b c : Bool) → w .le k x ≡ b → w .le x k ≡ c → Ascends w (with-key w k (x ∷ xs))
       go ih true true e f = rw (e, f) h
       go ih true false e f =
@@ -67,7 +68,8 @@ module _ {K T : Type 0} (w : Kinds K T) (l : Lawful w) where
       behind : All-behind w x (without-key w k xs)
       behind =
           has-all-behind x (without-key w k xs)
-            (λ j f. let g = has-without-key j k xs (h .1) in let b = behind-has x j xs (h .0) in grind arith)
+          (λ j f. let g = has-without-key j k xs (h .1) in let b = behind-has x j xs (h .0) in grind arith)
+
       go : Ascends w (without-key w k xs) → (b : Bool) → same w k x ≡ b → Ascends w (without-key w k (x ∷ xs))
       go ih true e = rw e (h .1)
       go ih false e = rw e (behind, ih)
@@ -99,6 +101,7 @@ module _ {K T : Type 0} (w : Kinds K T) (l : Lawful w) where
           let c = behind-has k j ks (p .0) in
           let d = behind-has j k js (q .0) in
           grind (arith, l .reflexive k, l .reflexive j, l .total k j, same-eq w l k j)
+
       rest : (x : K) → has w x ks ≡ has w x js
       rest x =
           let a = h x in
@@ -114,12 +117,13 @@ module _ {K T : Type 0} (w : Kinds K T) (l : Lawful w) where
   -- two ascending rows, the first before the second, join to one
   pub ascends-append : (ks js : List K) → Ascends w ks → Ascends w js → ((k j : K) → has w k ks ≡ true → has w j js ≡ true → before w k j ≡ true) → Ascends w (ks ++ js)
   ascends-append [] js p q h = q
-  ascends-append (k ∷ ks) js p q h =
-      (has-all-behind k (ks ++ js)
-          (λ j e.
-            let a = has-append j ks js in
-            let b = behind-has k j ks (p .0) in
-            let c = h k j in
-            let d = same-refl w l k in
-            grind arith),
-        ascends-append ks js (p .1) q (λ x j e. h x j (grind arith)))
+  ascends-append (k ∷ ks) js p q h = (
+    has-all-behind k (ks ++ js)
+        (λ j e.
+        let a = has-append j ks js in
+        let b = behind-has k j ks (p .0) in
+        let c = h k j in
+        let d = same-refl w l k in
+        grind arith),
+    ascends-append ks js (p .1) q (λ x j e. h x j (grind arith)),
+  )

@@ -144,11 +144,11 @@ module _ {K T : Type 0} (w : Kinds K T) (l : Lawful w) (rs : List (Request K)) w
   lone-share : (R : K → Bool) (t : ℕ) (lo hi : K) (m : Mode) (j : K) → Good w rs R t (leaf j) → (b : Bool) → wanted w lo hi m j ≡ b → cond b (w .weighed j) (w .none) ≡ wanted-weight R t lo hi m
   lone-share R t lo hi m j g true e =
       sym (weights.weight-one w l (λ k. R k && wanted w lo hi m k) j (set-before w rs t) (ascends-at w l rs (pred t)) (both-true (g .0) e)
-        (λ k r. g .1 k (and-first (R k) (wanted w lo hi m k) r)))
+      (λ k r. g .1 k (and-first (R k) (wanted w lo hi m k) r)))
   lone-share R t lo hi m j g false e =
       sym (weights.weight-nothing w l (λ k. R k && wanted w lo hi m k) (set-before w rs t) (λ k h. false-unless (R k && wanted w lo hi m k) (λ r.
-        let here = same-eq w l k j (sym (g .1 k (and-first (R k) (wanted w lo hi m k) r)) ∙ h) in
-        true≢false (sym (and-second (R k) (wanted w lo hi m k) r) ∙ ap (wanted w lo hi m) here ∙ e))))
+      let here = same-eq w l k j (sym (g .1 k (and-first (R k) (wanted w lo hi m k) r)) ∙ h) in
+      true≢false (sym (and-second (R k) (wanted w lo hi m k) r) ∙ ap (wanted w lo hi m) here ∙ e))))
 
   -- the count's own share where it stands
   share-here : (R : K → Bool) (lo hi : K) (e : Waiter) → share w rs (e .number) lo hi R e ≡ wanted-weight R (e .number) lo hi (e .mode)
@@ -158,13 +158,13 @@ module _ {K T : Type 0} (w : Kinds K T) (l : Lawful w) (rs : List (Request K)) w
   pub shown-share : (R : K → Bool) (t : ℕ) (lo hi : K) (m : Mode) (x : Tree K T) → Good w rs R t x → w .joined (added w lo hi m x) (pending w rs t lo hi R (count-child w t m x)) ≡ w .joined (weight-of w (λ k. R k && wanted w lo hi m k) (set-before w rs t)) (pending w rs t lo hi R x)
   shown-share R t lo hi m bare g =
       ap (λ v. w .joined v (w .none)) (sym (weights.weight-nothing w l (λ k. R k && wanted w lo hi m k) (set-before w rs t)
-        (λ k h. false-unless (R k && wanted w lo hi m k) (λ r. true≢false (sym h ∙ g k (and-first (R k) (wanted w lo hi m k) r))))))
+      (λ k h. false-unless (R k && wanted w lo hi m k) (λ r. true≢false (sym h ∙ g k (and-first (R k) (wanted w lo hi m k) r))))))
   shown-share R t lo hi m (leaf j) g = ap (λ v. w .joined v (w .none)) (lone-share R t lo hi m j g (wanted w lo hi m j) refl)
   shown-share R t lo hi m (node p s tally q a b) g =
       l .neutral (w .joined (queue-share w rs t lo hi R (q ++ (waiter t m ∷ []))) rest)
-        ∙ ap (λ v. w .joined v rest)
-          (queue-share-append w l rs t lo hi R q (waiter t m) ∙ ap (w .joined (queue-share w rs t lo hi R q)) (share-here R lo hi (waiter t m)) ∙ l .commutative (queue-share w rs t lo hi R q) (wanted-weight R t lo hi m))
-        ∙ l .associative (wanted-weight R t lo hi m) (queue-share w rs t lo hi R q) rest
+      ∙ ap (λ v. w .joined v rest)
+      (queue-share-append w l rs t lo hi R q (waiter t m) ∙ ap (w .joined (queue-share w rs t lo hi R q)) (share-here R lo hi (waiter t m)) ∙ l .commutative (queue-share w rs t lo hi R q) (wanted-weight R t lo hi m))
+      ∙ l .associative (wanted-weight R t lo hi m) (queue-share w rs t lo hi R q) rest
     where
       rest : T
       rest = w .joined (pending w rs t lo hi (left-of w R s) a) (pending w rs t lo hi (right-of w R s) b)
@@ -185,8 +185,8 @@ module _ {K T : Type 0} (w : Kinds K T) (l : Lawful w) (rs : List (Request K)) w
         → wanted-weight R t lo hi m ≡ w .joined (weight-of w (λ k. left-of w R s k && x k) (set-before w rs t)) (weight-of w (λ k. right-of w R s k && y k) (set-before w rs t))
     parted m x y f g =
         weights.weight-same-test w l (λ k. R k && wanted w lo hi m k) (λ k. (left-of w R s k && x k) || (right-of w R s k && y k)) (set-before w rs t)
-          (λ k h. cut-both (R k) (wanted w lo hi m k) (w .le s k) (x k) (y k) (f k) (g k))
-          ∙ weights.weight-union w l (λ k. left-of w R s k && x k) (λ k. right-of w R s k && y k) (set-before w rs t) (λ k e. cut-apart (R k) (w .le s k) (x k) (y k) e)
+        (λ k h. cut-both (R k) (wanted w lo hi m k) (w .le s k) (x k) (y k) (f k) (g k))
+        ∙ weights.weight-union w l (λ k. left-of w R s k && x k) (λ k. right-of w R s k && y k) (set-before w rs t) (λ k e. cut-apart (R k) (w .le s k) (x k) (y k) e)
 
     -- the whole of a side is wanted
     all-wanted : (Q : K → Bool) → weight-of w (λ k. Q k && true) (set-before w rs t) ≡ weight-before w Q rs t
@@ -196,12 +196,14 @@ module _ {K T : Type 0} (w : Kinds K T) (l : Lawful w) (rs : List (Request K)) w
       -- what is left to add on either side before the count moves
       abbrev left-rest : T
       left-rest = pending w rs t lo hi (left-of w R s) a
+
       abbrev right-rest : T
       right-rest = pending w rs t lo hi (right-of w R s) b
 
       -- and what is left where a side is shown to it
       abbrev left-shown : Mode → T
       left-shown m = pending w rs t lo hi (left-of w R s) (count-child w t m a)
+
       abbrev right-shown : Mode → T
       right-shown m = pending w rs t lo hi (right-of w R s) (count-child w t m b)
 
@@ -210,43 +212,43 @@ module _ {K T : Type 0} (w : Kinds K T) (l : Lawful w) (rs : List (Request K)) w
           → w .joined (w .joined (added w lo hi m b) (w .none)) (w .joined left-rest (right-shown m)) ≡ w .joined (wanted-weight R t lo hi m) (w .joined left-rest right-rest)
       goes-right m f =
           step-right w l (added w lo hi m b) (wanted-weight (right-of w R s) t lo hi m) left-rest right-rest (right-shown m) (shown-share (right-of w R s) t lo hi m b gb)
-            ∙ ap (λ v. w .joined v (w .joined left-rest right-rest)) (sym (only-right m f))
+          ∙ ap (λ v. w .joined v (w .joined left-rest right-rest)) (sym (only-right m f))
 
       goes-left : (m : Mode) → ((k : K) → wanted w lo hi m k ≡ true → before w k s ≡ true)
           → w .joined (w .joined (added w lo hi m a) (w .none)) (w .joined (left-shown m) right-rest) ≡ w .joined (wanted-weight R t lo hi m) (w .joined left-rest right-rest)
       goes-left m f =
           step-left w l (added w lo hi m a) (wanted-weight (left-of w R s) t lo hi m) left-rest (left-shown m) right-rest (shown-share (left-of w R s) t lo hi m a ga)
-            ∙ ap (λ v. w .joined v (w .joined left-rest right-rest)) (sym (only-left m f))
+          ∙ ap (λ v. w .joined v (w .joined left-rest right-rest)) (sym (only-left m f))
 
       -- it goes both ways
       goes-both : w .le s lo ≡ false → before w hi s ≡ false
           → w .joined (w .joined (added w lo hi From a) (w .joined (added w lo hi Upto b) (w .none))) (w .joined (left-shown From) (right-shown Upto)) ≡ w .joined (wanted-weight R t lo hi Between) (w .joined left-rest right-rest)
       goes-both f h =
           step-both w l (added w lo hi From a) (added w lo hi Upto b) (wanted-weight (left-of w R s) t lo hi From) (wanted-weight (right-of w R s) t lo hi Upto) left-rest (left-shown From) right-rest (right-shown Upto)
-            (shown-share (left-of w R s) t lo hi From a ga) (shown-share (right-of w R s) t lo hi Upto b gb)
-            ∙ ap (λ v. w .joined v (w .joined left-rest right-rest)) (sym (parted Between (w .le lo) (λ k. w .le k hi)
-              (λ k e. ap (λ v. v && w .le k hi) (above-low w l s lo k f e))
-              (λ k e. ap (λ v. w .le lo k && v) (under-high w l s hi k h e) ∙ and-true (w .le lo k))))
+          (shown-share (left-of w R s) t lo hi From a ga) (shown-share (right-of w R s) t lo hi Upto b gb)
+          ∙ ap (λ v. w .joined v (w .joined left-rest right-rest)) (sym (parted Between (w .le lo) (λ k. w .le k hi)
+          (λ k e. ap (λ v. v && w .le k hi) (above-low w l s lo k f e))
+          (λ k e. ap (λ v. w .le lo k && v) (under-high w l s hi k h e) ∙ and-true (w .le lo k))))
 
       -- it adds the whole of one side and goes on to the other
       takes-right : w .le s lo ≡ false
           → w .joined (w .joined (whole-of w b) (w .joined (added w lo hi From a) (w .none))) (w .joined (left-shown From) right-rest) ≡ w .joined (wanted-weight R t lo hi From) (w .joined left-rest right-rest)
       takes-right f =
           step-swap w l (added w lo hi From a) (whole-of w b) (wanted-weight (left-of w R s) t lo hi From) (weight-of w (λ k. right-of w R s k && true) (set-before w rs t)) left-rest (left-shown From) right-rest right-rest
-            (shown-share (left-of w R s) t lo hi From a ga) (ap (λ v. w .joined v right-rest) (whole-is (right-of w R s) t b gb ∙ sym (all-wanted (right-of w R s))))
-            ∙ ap (λ v. w .joined v (w .joined left-rest right-rest)) (sym (parted From (w .le lo) (λ k. true) (λ k e. above-low w l s lo k f e) (λ k e. refl)))
+          (shown-share (left-of w R s) t lo hi From a ga) (ap (λ v. w .joined v right-rest) (whole-is (right-of w R s) t b gb ∙ sym (all-wanted (right-of w R s))))
+          ∙ ap (λ v. w .joined v (w .joined left-rest right-rest)) (sym (parted From (w .le lo) (λ k. true) (λ k e. above-low w l s lo k f e) (λ k e. refl)))
 
       takes-left : before w hi s ≡ false
           → w .joined (w .joined (whole-of w a) (w .joined (added w lo hi Upto b) (w .none))) (w .joined left-rest (right-shown Upto)) ≡ w .joined (wanted-weight R t lo hi Upto) (w .joined left-rest right-rest)
       takes-left h =
           step-both w l (whole-of w a) (added w lo hi Upto b) (weight-of w (λ k. left-of w R s k && true) (set-before w rs t)) (wanted-weight (right-of w R s) t lo hi Upto) left-rest left-rest right-rest (right-shown Upto)
-            (ap (λ v. w .joined v left-rest) (whole-is (left-of w R s) t a ga ∙ sym (all-wanted (left-of w R s)))) (shown-share (right-of w R s) t lo hi Upto b gb)
-            ∙ ap (λ v. w .joined v (w .joined left-rest right-rest)) (sym (parted Upto (λ k. true) (λ k. w .le k hi) (λ k e. refl) (λ k e. under-high w l s hi k h e)))
+          (ap (λ v. w .joined v left-rest) (whole-is (left-of w R s) t a ga ∙ sym (all-wanted (left-of w R s)))) (shown-share (right-of w R s) t lo hi Upto b gb)
+          ∙ ap (λ v. w .joined v (w .joined left-rest right-rest)) (sym (parted Upto (λ k. true) (λ k. w .le k hi) (λ k e. refl) (λ k e. under-high w l s hi k h e)))
 
       -- each row of the table of modes
       row : (m : Mode) (c d : Bool) → w .le s lo ≡ c → before w hi s ≡ d
           → w .joined (steps-added w lo hi (count-steps m c d) a b) (w .joined (pending w rs t lo hi (left-of w R s) (shown-pair w t (count-steps m c d) (a, b) .0)) (pending w rs t lo hi (right-of w R s) (shown-pair w t (count-steps m c d) (a, b) .1)))
-            ≡ w .joined (wanted-weight R t lo hi m) (w .joined (pending w rs t lo hi (left-of w R s) a) (pending w rs t lo hi (right-of w R s) b))
+          ≡ w .joined (wanted-weight R t lo hi m) (w .joined (pending w rs t lo hi (left-of w R s) a) (pending w rs t lo hi (right-of w R s) b))
       row Between true d f h = goes-right Between (λ k v. l .transitive s lo k f (and-first (w .le lo k) (w .le k hi) v))
       row Between false true f h = goes-left Between (λ k v. le-before-trans w l k hi s (and-second (w .le lo k) (w .le k hi) v) h)
       row Between false false f h = goes-both f h
@@ -259,14 +261,14 @@ module _ {K T : Type 0} (w : Kinds K T) (l : Lawful w) (rs : List (Request K)) w
   pub counted-node : (R : K → Bool) (now : ℕ) (p : ℕ) (s : K) (tally : T) (e : Waiter) (q : List Waiter) (a b : Tree K T) (lo hi : K) → Good w rs R now (node p s tally (e ∷ q) a b) → Mode-fits w R lo hi (e .mode) → w .joined (steps-added w lo hi (count-steps (e .mode) (w .le s lo) (before w hi s)) a b) (pending w rs (e .number) lo hi R (moved-node w (Count lo hi) (node p s tally (e ∷ q) a b))) ≡ pending w rs (e .number) lo hi R (node p s tally (e ∷ q) a b)
   counted-node R now p s tally e q a b lo hi g fit =
       in-front w l
-        (steps-added w lo hi (count-steps (e .mode) (w .le s lo) (before w hi s)) a b)
-        (wanted-weight R (e .number) lo hi (e .mode))
-        (queue-share w rs (e .number) lo hi R q)
-        (w .joined (pending w rs (e .number) lo hi (left-of w R s) (below .0)) (pending w rs (e .number) lo hi (right-of w R s) (below .1)))
-        (w .joined (pending w rs (e .number) lo hi (left-of w R s) a) (pending w rs (e .number) lo hi (right-of w R s) b))
-        (row R s (e .number) lo hi a b (g .2) (g .3) (e .mode) (w .le s lo) (before w hi s) refl refl)
-        ∙ ap (λ v. w .joined (w .joined v (queue-share w rs (e .number) lo hi R q)) (w .joined (pending w rs (e .number) lo hi (left-of w R s) a) (pending w rs (e .number) lo hi (right-of w R s) b)))
-          (sym (share-here R lo hi e))
+      (steps-added w lo hi (count-steps (e .mode) (w .le s lo) (before w hi s)) a b)
+      (wanted-weight R (e .number) lo hi (e .mode))
+      (queue-share w rs (e .number) lo hi R q)
+      (w .joined (pending w rs (e .number) lo hi (left-of w R s) (below .0)) (pending w rs (e .number) lo hi (right-of w R s) (below .1)))
+      (w .joined (pending w rs (e .number) lo hi (left-of w R s) a) (pending w rs (e .number) lo hi (right-of w R s) b))
+      (row R s (e .number) lo hi a b (g .2) (g .3) (e .mode) (w .le s lo) (before w hi s) refl refl)
+      ∙ ap (λ v. w .joined (w .joined v (queue-share w rs (e .number) lo hi R q)) (w .joined (pending w rs (e .number) lo hi (left-of w R s) a) (pending w rs (e .number) lo hi (right-of w R s) b)))
+      (sym (share-here R lo hi e))
     where
       below : Tree K T × Tree K T
       below = shown-pair w (e .number) (count-steps (e .mode) (w .le s lo) (before w hi s)) (a, b)

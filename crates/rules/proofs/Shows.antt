@@ -116,21 +116,30 @@ module _ {K T : Type 0} (w : Kinds K T) (l : Lawful w) (t : ℕ) (lo hi : K) whe
   pub shown-counts : (s : State K T) (m : Mode) (x : Tree K T) → Counts w s (shown w s t lo hi m (slot-of x)) t (added w lo hi m x) (topped x)
   shown-counts s m bare = record {
     rest = record { capacity = refl; requests = refl; asker = refl; decision = refl; desk = refl };
-    place = refl; slot = refl; answer = refl; queue = λ i e. refl; others = λ i e. refl;
-    tally = sym (neutral-right w l (s .counted t))
+    place = refl;
+    slot = refl;
+    answer = refl;
+    queue = λ i e. refl;
+    others = λ i e. refl;
+    tally = sym (neutral-right w l (s .counted t));
   }
   shown-counts s m (leaf j) = record {
     rest = record { capacity = refl; requests = refl; asker = refl; decision = refl; desk = refl };
-    place = refl; slot = refl; answer = refl; queue = λ i e. refl;
+    place = refl;
+    slot = refl;
+    answer = refl;
+    queue = λ i e. refl;
     others = λ i e. put-other (s .counted) t _ i e;
-    tally = put-here (s .counted) t _
+    tally = put-here (s .counted) t _;
   }
   shown-counts s m (node f split v q a b) = record {
     rest = record { capacity = refl; requests = refl; asker = refl; decision = refl; desk = refl };
-    place = refl; slot = refl; answer = refl;
+    place = refl;
+    slot = refl;
+    answer = refl;
     queue = λ i e. put-other (s .queue) f (s .queue f ++ (waiter t m ∷ [])) i e;
     others = λ i e. refl;
-    tally = sym (neutral-right w l (s .counted t))
+    tally = sym (neutral-right w l (s .counted t));
   }
 
   pub shown-drawn : (s : State K T) (m : Mode) (x : Tree K T) → Top-once x → Drawn (s .place) (s .queue) x → Drawn (shown w s t lo hi m (slot-of x) .place) (shown w s t lo hi m (slot-of x) .queue) (count-child w t m x)
@@ -142,9 +151,12 @@ module _ {K T : Type 0} (w : Kinds K T) (l : Lawful w) (t : ℕ) (lo hi : K) whe
   pub added-counts : (s : State K T) (x : Tree K T) → Drawn (s .place) (s .queue) x → Counts w s (with-added w s t (whole w s (slot-of x))) t (whole-of w x) (λ i. false)
   added-counts s x d = record {
     rest = record { capacity = refl; requests = refl; asker = refl; decision = refl; desk = refl };
-    place = refl; slot = refl; answer = refl; queue = λ i e. refl;
+    place = refl;
+    slot = refl;
+    answer = refl;
+    queue = λ i e. refl;
     others = λ i e. put-other (s .counted) t _ i e;
-    tally = put-here (s .counted) t _ ∙ ap (w .joined (s .counted t)) (is-whole x d)
+    tally = put-here (s .counted) t _ ∙ ap (w .joined (s .counted t)) (is-whole x d);
   }
     where
       is-whole : (x : Tree K T) → Drawn (s .place) (s .queue) x → whole w s (slot-of x) ≡ whole-of w x

@@ -53,8 +53,8 @@ module _ {K T : Type 0} (w : Kinds K T) where
       at-gate = λ x m u. absurd (true≢false (sym u));
       plain = λ p x m r u num wants. absurd (true≢false (sym u));
       held = λ p x st. absurd (true≢false (sym st));
-      hands = λ n t e. absurd (let z : _≡_ {A = ℕ} 0 1 = cc in omega arith)
-    }
+      hands = λ n t e. absurd (let z : _≡_ {A = ℕ} 0 1 = cc in omega arith);
+    };
   }
     where
       flat : (p : ℕ) (side : Side) (f : ℕ) → slot-at (opening w cells) p side ≡ leads f → ⊥
@@ -94,6 +94,7 @@ module _ {K T : Type 0} (w : Kinds K T) where
         asks : (o : Option (Request K)) → numbered (s .requests) t ≡ o → e .number ≡ t → Sounds (elim o as (λ _. Carried × State K T) [ None ↦ late w s n | Some r ↦ at-head w s n p e r ] .1)
         asks None num is = noted note.None
         asks (Some r) num is = sound-head p e q line r (ap (numbered (s .requests)) is ∙ num)
+
         go : (b : Bool) → eqb (e .number) t ≡ b → Sounds (cond b (elim (numbered (s .requests) t) as (λ _. Carried × State K T) [ None ↦ late w s n | Some r ↦ at-head w s n p e r ]) (late w s n) .1)
         go true is = asks (numbered (s .requests) t) refl (eqb-true (e .number) t is)
         go false is = noted note.None
@@ -122,10 +123,12 @@ module _ {K T : Type 0} (w : Kinds K T) where
         full : (b : Bool) → is-station n ≡ true → s .desk n .uncollected ≡ None → Sounds (state-by (check b no.Full None) s (joined-by s n r))
         full true station idle = h
         full false station idle = sounds-of (sound-submitted (h .facts) n r station idle)
+
         free : (b : Bool) → isSome (s .desk n .uncollected) ≡ b → is-station n ≡ true
             → Sounds (state-by (check b no.Uncollected (check (leb (s .capacity) (given s)) no.Full None)) s (joined-by s n r))
         free true is station = h
         free false is station = full (leb (s .capacity) (given s)) station (none-there (s .desk n .uncollected) is)
+
         go : (b : Bool) → is-station n ≡ b
             → Sounds (state-by (check (not b) no.NoStation (check (isSome (s .desk n .uncollected)) no.Uncollected (check (leb (s .capacity) (given s)) no.Full None))) s (joined-by s n r))
         go true is = free (isSome (s .desk n .uncollected)) refl is
@@ -138,6 +141,7 @@ module _ {K T : Type 0} (w : Kinds K T) where
         borne : finished s t ≡ true → (o : Option (Answer T)) → Sounds (elim (elim o as (λ _. Result (ℕ × Answer T) Refusal) [ None ↦ Err no.Unfinished | Some a ↦ Ok (t, a) ]) [ Ok a ↦ with-uncollected s n None | Err e ↦ s ])
         borne done None = h
         borne done (Some a) = sounds-of (sound-collected (h .facts) n t own done)
+
         go : (b : Bool) → finished s t ≡ b → Sounds (elim (elim (cond b (elim (numbered (s .requests) t) as (λ _. Option (Answer T)) [ None ↦ None | Some r ↦ bears s t r ]) None) as (λ _. Result (ℕ × Answer T) Refusal) [ None ↦ Err no.Unfinished | Some a ↦ Ok (t, a) ]) [ Ok a ↦ with-uncollected s n None | Err e ↦ s ])
         go true done = borne done (elim (numbered (s .requests) t) as (λ _. Option (Answer T)) [ None ↦ None | Some r ↦ bears s t r ])
         go false done = h

@@ -51,9 +51,10 @@ module _ {K T : Type 0} where
 
     pub alike-held : (x : ℕ) → (is-station (s .asker x) ≡ true) × (s .desk (s .asker x) .uncollected ≡ Some x)
         → (is-station (s′ .asker x) ≡ true) × (s′ .desk (s′ .asker x) .uncollected ≡ Some x)
-    alike-held x h =
-        ( ap (λ f. is-station (f x)) (a .asker) ∙ h .0
-        , a .uncollected (s′ .asker x) ∙ ap (λ f. s .desk (f x) .uncollected) (a .asker) ∙ h .1)
+    alike-held x h = (
+      ap (λ f. is-station (f x)) (a .asker) ∙ h .0,
+      a .uncollected (s′ .asker x) ∙ ap (λ f. s .desk (f x) .uncollected) (a .asker) ∙ h .1,
+    )
 
     pub sound-alike : {last above : ℕ → ℕ} → Sounds-by s last above → Sounds-by s′ last above
     sound-alike {last = last} {above = above} h = record {
@@ -70,7 +71,7 @@ module _ {K T : Type 0} where
       at-gate = λ x m u. h .at-gate x m (alike-in 0 x m u);
       plain = λ p x m r u num. h .plain p x m r (alike-in p x m u) (ap (λ rs. numbered rs x) (sym (a .requests)) ∙ num);
       held = λ p x st. alike-held x (h .held p x (alike-stood p x st));
-      hands = λ n t e. let v = h .hands n t (sym (a .uncollected n) ∙ e) in (v .0, ap (λ f. f t) (a .asker) ∙ v .1, v .2, alike-given t (v .3))
+      hands = λ n t e. let v = h .hands n t (sym (a .uncollected n) ∙ e) in (v .0, ap (λ f. f t) (a .asker) ∙ v .1, v .2, alike-given t (v .3));
     }
 
   alike-same : (s : State K T) → Alike s s
@@ -99,16 +100,19 @@ module _ {K T : Type 0} where
   alike-note s n x =
       alike-rows s (with-note s n x) refl refl refl
       (λ i. put-cases (s .desk) n (record { note = x; uncollected = s .desk n .uncollected }) i (λ d. d .uncollected ≡ s .desk i .uncollected)
-          (λ e. ap (λ j. s .desk j .uncollected) (sym e)) (λ _. refl))
+      (λ e. ap (λ j. s .desk j .uncollected) (sym e)) (λ _. refl))
       refl refl
 
   -- a place written anew whose slots lead to no other places
   pub alike-place : (s : State K T) (q : ℕ) (f f′ : Place K T) → s .place q ≡ Some f → ((side : Side) (g : ℕ) → slot-on f′ side ≡ leads g → slot-on f side ≡ leads g)
       → Alike s (with-place s q f′)
   alike-place s q f f′ is fewer = record {
-    requests = refl; asker = refl; queue = refl; uncollected = λ n. refl;
+    requests = refl;
+    asker = refl;
+    queue = refl;
+    uncollected = λ n. refl;
     made = λ i. put-cases (s .place) q (Some f′) i (λ o. isSome o ≡ is-made s i) (λ e. sym (ap isSome (ap (s .place) e ∙ is))) (λ _. refl);
-    slots = slots
+    slots = slots;
   }
     where
       slots : (p : ℕ) (side : Side) (g : ℕ) → slot-at (with-place s q f′) p side ≡ leads g → slot-at s p side ≡ leads g

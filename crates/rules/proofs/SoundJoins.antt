@@ -47,7 +47,7 @@ module _ {K T : Type 0} where
             (λ same. ((λ z. far .0 (z ∙ same)), (λ z. far .1 (sym same ∙ z)), far .2))
             (λ between. absurd (far .1 between))
             own;
-        plain = plain
+        plain = plain;
       }
 
   pub joiner-alike : {s s′ : State K T} {last above : ℕ → ℕ} {p t : ℕ} {m : Mode} {f : ℕ} → Alike s s′ → Joiner s last above p t m f → Joiner s′ last above p t m f
@@ -57,7 +57,7 @@ module _ {K T : Type 0} where
     hangs = j .hangs;
     under = j .under;
     free = λ q m′ st. j .free q m′ (alike-in a q t m′ st);
-    plain = λ r num. j .plain r (ap (λ rs. numbered rs t) (sym (a .requests)) ∙ num)
+    plain = λ r num. j .plain r (ap (λ rs. numbered rs t) (sym (a .requests)) ∙ num);
   }
 
   module _ {s : State K T} {last above : ℕ → ℕ} {p t : ℕ} {m : Mode} {f : ℕ} (j : Joiner s last above p t m f) where
@@ -101,9 +101,9 @@ module _ {K T : Type 0} where
     among q x st =
         ⊎-elim
         (λ old. let v = h .among q x old in
-                (v .0, v .1, put-cases last f t q (λ l. x ≤ l) (λ e. let a = v .2 in let b = j .under in let c : last q ≡ last f = ap last e in omega arith) (λ _. v .2)))
+        (v .0, v .1, put-cases last f t q (λ l. x ≤ l) (λ e. let a = v .2 in let b = j .under in let c : last q ≡ last f = ap last e in omega arith) (λ _. v .2)))
         (λ new. let a = j .mover .named in let same = new .1 in
-                (omega (arith, a .0), omega (arith, a .1), put-cases last f t q (λ l. x ≤ l) (λ _. omega arith) (λ ne. absurd (ne (new .0)))))
+        (omega (arith, a .0), omega (arith, a .1), put-cases last f t q (λ l. x ≤ l) (λ _. omega arith) (λ ne. absurd (ne (new .0)))))
         (stood q x st)
 
     falls : (q : ℕ) (side : Side) (g : ℕ) → slot-at s q side ≡ leads g → put last f t g ≤ put last f t q
@@ -111,49 +111,49 @@ module _ {K T : Type 0} where
         let d = h .down q side g is in
         put-cases last f t g (λ l. l ≤ put last f t q)
         (λ e. put-cases last f t q (λ l. t ≤ l) (λ _. omega arith)
-            (λ _. let at : q ≡ p = sym (d .1) ∙ ap above e ∙ j .hangs in let c : last q ≡ last p = ap last at in let a = j .mover .low in omega arith))
+        (λ _. let at : q ≡ p = sym (d .1) ∙ ap above e ∙ j .hangs in let c : last q ≡ last p = ap last at in let a = j .mover .low in omega arith))
         (λ _. put-cases last f t q (λ l. last g ≤ l)
-            (λ e. let c : last q ≡ last f = ap last e in let a = d .2 in let b = j .under in omega arith)
-            (λ _. d .2))
+        (λ e. let c : last q ≡ last f = ap last e in let a = d .2 in let b = j .under in omega arith)
+        (λ _. d .2))
 
     before : (q : ℕ) (side : Side) (g : ℕ) → slot-at s q side ≡ leads g → (x : ℕ) → stands x (put (s .queue) f longer q) ≡ true → put last f t g < x
     before q side g is x st =
         let d = h .down q side g is in
         put-cases last f t g (λ l. l < x)
         (λ e. let at : q ≡ p = sym (d .1) ∙ ap above e ∙ j .hangs in
-              ⊎-elim
-              (λ old. j .mover .first x (ap (λ i. stands x (s .queue i)) (sym at) ∙ old))
-              (λ new. absurd (joiner-apart (sym at ∙ new .0)))
-              (stood q x st))
+        ⊎-elim
+        (λ old. j .mover .first x (ap (λ i. stands x (s .queue i)) (sym at) ∙ old))
+        (λ new. absurd (joiner-apart (sym at ∙ new .0)))
+        (stood q x st))
         (λ _. ⊎-elim
-              (λ old. d .3 x old)
-              (λ new. let c : last q ≡ last f = ap last (new .0) in let a = d .2 in let b = j .under in let same = new .1 in omega arith)
-              (stood q x st))
+        (λ old. d .3 x old)
+        (λ new. let c : last q ≡ last f = ap last (new .0) in let a = d .2 in let b = j .under in let same = new .1 in omega arith)
+        (stood q x st))
 
     modes : (q q′ x : ℕ) (m′ : Mode) → stands-in x m′ (put (s .queue) f longer q) ≡ true → stands-in x m′ (put (s .queue) f longer q′) ≡ true → q ≡ q′
     modes q q′ x m′ u v =
         ⊎-elim
         (λ old. ⊎-elim
-            (λ old′. h .modes q q′ x m′ old old′)
-            (λ new′. absurd (nowhere-in q x m′ old (new′ .1) .0 (sym (new′ .2))))
-            (stood-in q′ x m′ v))
+        (λ old′. h .modes q q′ x m′ old old′)
+        (λ new′. absurd (nowhere-in q x m′ old (new′ .1) .0 (sym (new′ .2))))
+        (stood-in q′ x m′ v))
         (λ new. ⊎-elim
-            (λ old′. absurd (nowhere-in q′ x m′ old′ (new .1) .0 (sym (new .2))))
-            (λ new′. new .0 ∙ sym (new′ .0))
-            (stood-in q′ x m′ v))
+        (λ old′. absurd (nowhere-in q′ x m′ old′ (new .1) .0 (sym (new .2))))
+        (λ new′. new .0 ∙ sym (new′ .0))
+        (stood-in q′ x m′ v))
         (stood-in q x m′ u)
 
     between : (q q′ x : ℕ) (m′ : Mode) → stands-in x Between (put (s .queue) f longer q) ≡ true → stands-in x m′ (put (s .queue) f longer q′) ≡ true → m′ ≡ Between
     between q q′ x m′ u v =
         ⊎-elim
         (λ old. ⊎-elim
-            (λ old′. h .between q q′ x m′ old old′)
-            (λ new′. absurd (nowhere-in q x Between old (new′ .1) .2 refl))
-            (stood-in q′ x m′ v))
+        (λ old′. h .between q q′ x m′ old old′)
+        (λ new′. absurd (nowhere-in q x Between old (new′ .1) .2 refl))
+        (stood-in q′ x m′ v))
         (λ new. ⊎-elim
-            (λ old′. absurd (nowhere-in q′ x m′ old′ (new .1) .1 (new .2)))
-            (λ new′. sym (new′ .2) ∙ new .2)
-            (stood-in q′ x m′ v))
+        (λ old′. absurd (nowhere-in q′ x m′ old′ (new .1) .1 (new .2)))
+        (λ new′. sym (new′ .2) ∙ new .2)
+        (stood-in q′ x m′ v))
         (stood-in q x Between u)
 
     pub sound-joins : Sounds-by (with-waiter s f t m) (put last f t) above
@@ -171,7 +171,7 @@ module _ {K T : Type 0} where
       at-gate = λ x m′ u. ⊎-elim (λ old. h .at-gate x m′ old) (λ new. absurd (let v = h .made f (j .made) in let z = new .0 in omega (arith, v .0))) (stood-in 0 x m′ u);
       plain = λ q x m′ r u num no. ⊎-elim (λ old. h .plain q x m′ r old num no) (λ new. sym (new .2) ∙ j .plain r (ap (numbered (s .requests)) (new .1) ∙ num) no) (stood-in q x m′ u);
       held = λ q x st. ⊎-elim (λ old. h .held q x old) (λ new. subst (λ i. (is-station (s .asker i) ≡ true) × (s .desk (s .asker i) .uncollected ≡ Some i)) (new .1) (j .mover .held)) (stood q x st);
-      hands = h .hands
+      hands = h .hands;
     }
 
     -- it may then join another place below, in another mode; neither mode is Between
@@ -183,7 +183,7 @@ module _ {K T : Type 0} where
         named = j .mover .named;
         unmade = j .mover .unmade;
         held = j .mover .held;
-        first = λ x st. ⊎-elim (λ old. j .mover .first x old) (λ new. absurd (joiner-apart (new .0))) (stood p x st)
+        first = λ x st. ⊎-elim (λ old. j .mover .first x old) (λ new. absurd (joiner-apart (new .0))) (stood p x st);
       };
       made = k .made;
       hangs = k .hangs;
@@ -193,5 +193,5 @@ module _ {K T : Type 0} where
           (λ old. k .free q m″ old)
           (λ new. ((λ z. other (new .2 ∙ z)), two, (λ z. one (new .2 ∙ z))))
           (stood-in q t m″ st);
-      plain = k .plain
+      plain = k .plain;
     }

@@ -37,7 +37,7 @@ module _ {K T : Type 0} where
     named = (v .named .0, alike-given a t (v .named .1));
     unmade = alike-none a t (v .unmade);
     held = alike-held a t (v .held);
-    first = λ x st. v .first x (alike-stood a p x st)
+    first = λ x st. v .first x (alike-stood a p x st);
   }
 
   -- e was the head of p's queue and has left it
@@ -56,7 +56,7 @@ module _ {K T : Type 0} where
     under = λ side f is. v .under side f (a .slots p side f is);
     elsewhere = λ q m st. v .elsewhere q m (alike-in a q (e .number) m st);
     from-gate = v .from-gate;
-    plain = λ r num. v .plain r (ap (λ rs. numbered rs (e .number)) (sym (a .requests)) ∙ num)
+    plain = λ r num. v .plain r (ap (λ rs. numbered rs (e .number)) (sym (a .requests)) ∙ num);
   }
 
   module _ {s : State K T} {last above : ℕ → ℕ} (h : Sounds-by s last above) (p : ℕ) where
@@ -94,7 +94,7 @@ module _ {K T : Type 0} where
       at-gate = λ x m u. h .at-gate x m (stood-in 0 x m u);
       plain = λ q x m r u. h .plain q x m r (stood-in q x m u);
       held = λ q x st. h .held q x (stood q x st);
-      hands = h .hands
+      hands = h .hands;
     }
 
     module _ (e : Waiter) (q : List Waiter) (line : s .queue p ≡ e ∷ q) where
@@ -132,13 +132,14 @@ module _ {K T : Type 0} where
               named = (v .0, v .1);
               unmade = h .unmade p (e .number) head-stood;
               held = h .held p (e .number) head-stood;
-              first = behind-here
+              first = behind-here;
             };
             under = λ side f is. h .down p side f (slots p side f is) .3 (e .number) head-stood;
-            elsewhere = λ i m st.
-                ( gone i m st
-                , (λ own. gone i m st (h .between p i (e .number) m (subst (λ v. stands-in (e .number) v (s .queue p) ≡ true) own was-in) (stood-in i (e .number) m st) ∙ sym own))
-                , (λ is. gone i m st (is ∙ sym (h .between i p (e .number) (e .mode) (subst (λ v. stands-in (e .number) v (s .queue i) ≡ true) is (stood-in i (e .number) m st)) was-in))));
+            elsewhere = λ i m st. (
+              gone i m st,
+              (λ own. gone i m st (h .between p i (e .number) m (subst (λ v. stands-in (e .number) v (s .queue p) ≡ true) own was-in) (stood-in i (e .number) m st) ∙ sym own)),
+              (λ is. gone i m st (is ∙ sym (h .between i p (e .number) (e .mode) (subst (λ v. stands-in (e .number) v (s .queue i) ≡ true) is (stood-in i (e .number) m st)) was-in))),
+            );
             from-gate = λ z. h .at-gate (e .number) (e .mode) (ap (λ i. stands-in (e .number) (e .mode) (s .queue i)) (sym z) ∙ was-in);
-            plain = λ r num no. h .plain p (e .number) (e .mode) r was-in num no
+            plain = λ r num no. h .plain p (e .number) (e .mode) r was-in num no;
           }

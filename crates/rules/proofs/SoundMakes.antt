@@ -40,10 +40,13 @@ module _ {K T : Type 0} where
   module _ (w : Kinds K T) (s : State K T) (t : ℕ) (k : K) (fresh : Place K T) (nowhere : (side : Side) (g : ℕ) → slot-on fresh side ≡ leads g → ⊥) where
     grown-gate : Grown s (with-place (with-gate s (leads t)) t fresh) 0 on-left t
     grown-gate = record {
-      requests = refl; asker = refl; queue = refl; desk = refl;
+      requests = refl;
+      asker = refl;
+      queue = refl;
+      desk = refl;
       here = put-cases (s .place) t (Some fresh) t (λ o. isSome o ≡ true) (λ _. refl) (λ ne. absurd (ne refl));
       others = λ f ne. put-cases (s .place) t (Some fresh) f (λ o. isSome o ≡ is-made s f) (λ e. absurd (ne e)) (λ _. refl);
-      slots = slots
+      slots = slots;
     }
       where
         slots : (q : ℕ) (side : Side) (f : ℕ) → slot-at (with-place (with-gate s (leads t)) t fresh) q side ≡ leads f → ((q ≡ 0) × (side ≡ on-left) × (f ≡ t)) ⊎ (slot-at s q side ≡ leads f)
@@ -51,20 +54,24 @@ module _ {K T : Type 0} where
         slots zero on-right f e = inr e
         slots (suc q) side f e =
             inr (put-cases (s .place) t (Some fresh) (suc q) (λ o. elim o as (λ _. Slot K) [ None ↦ empty | Some x ↦ slot-on x side ] ≡ leads f → slot-at s (suc q) side ≡ leads f)
-                (λ _ u. absurd (nowhere side f u)) (λ _ u. u) e)
+            (λ _ u. absurd (nowhere side f u)) (λ _ u. u) e)
 
     grown-place : (p : ℕ) (side : Side) (f : Place K T) → s .place (suc p) ≡ Some f
         → Grown s (with-place (with-place s (suc p) (with-slot-on f side (leads t))) t fresh) (suc p) side t
     grown-place p side f is = record {
-      requests = refl; asker = refl; queue = refl; desk = refl;
+      requests = refl;
+      asker = refl;
+      queue = refl;
+      desk = refl;
       here = put-cases (put (s .place) (suc p) (Some (with-slot-on f side (leads t)))) t (Some fresh) t (λ o. isSome o ≡ true) (λ _. refl) (λ ne. absurd (ne refl));
       others = λ i ne. put-cases (put (s .place) (suc p) (Some (with-slot-on f side (leads t)))) t (Some fresh) i (λ o. isSome o ≡ is-made s i) (λ e. absurd (ne e))
           (λ _. put-cases (s .place) (suc p) (Some (with-slot-on f side (leads t))) i (λ o. isSome o ≡ is-made s i) (λ e. sym (ap isSome (ap (s .place) e ∙ is))) (λ _. refl));
-      slots = slots
+      slots = slots;
     }
       where
         one : (g : ℕ) → _≡_ {A = Slot K} (leads t) (leads g) → g ≡ t
         one g e = cc
+
         slots : (q : ℕ) (side′ : Side) (g : ℕ) → slot-at (with-place (with-place s (suc p) (with-slot-on f side (leads t))) t fresh) q side′ ≡ leads g
             → ((q ≡ suc p) × (side′ ≡ side) × (g ≡ t)) ⊎ (slot-at s q side′ ≡ leads g)
         slots zero on-left g e = inr e
@@ -73,11 +80,11 @@ module _ {K T : Type 0} where
             put-cases (put (s .place) (suc p) (Some (with-slot-on f side (leads t)))) t (Some fresh) (suc q) (λ o. elim o as (λ _. Slot K) [ None ↦ empty | Some x ↦ slot-on x side′ ] ≡ leads g → ((suc q ≡ suc p) × (side′ ≡ side) × (g ≡ t)) ⊎ (slot-at s (suc q) side′ ≡ leads g))
             (λ _ u. absurd (nowhere side′ g u))
             (λ _. put-cases (s .place) (suc p) (Some (with-slot-on f side (leads t))) (suc q)
-                (λ o. elim o as (λ _. Slot K) [ None ↦ empty | Some x ↦ slot-on x side′ ] ≡ leads g → ((suc q ≡ suc p) × (side′ ≡ side) × (g ≡ t)) ⊎ (slot-at s (suc q) side′ ≡ leads g))
-                (λ at u. ⊎-elim (λ new. inl (at, new .0, one g (new .1)))
-                    (λ old. inr (ap (λ o. elim o as (λ _. Slot K) [ None ↦ empty | Some x ↦ slot-on x side′ ]) (ap (s .place) at ∙ is) ∙ old))
-                    (slot-written f side (leads t) side′ g u))
-                (λ _ u. inr u))
+            (λ o. elim o as (λ _. Slot K) [ None ↦ empty | Some x ↦ slot-on x side′ ] ≡ leads g → ((suc q ≡ suc p) × (side′ ≡ side) × (g ≡ t)) ⊎ (slot-at s (suc q) side′ ≡ leads g))
+            (λ at u. ⊎-elim (λ new. inl (at, new .0, one g (new .1)))
+            (λ old. inr (ap (λ o. elim o as (λ _. Slot K) [ None ↦ empty | Some x ↦ slot-on x side′ ]) (ap (s .place) at ∙ is) ∙ old))
+            (slot-written f side (leads t) side′ g u))
+            (λ _ u. inr u))
             e
 
     -- a slot that holds a key is that of the gate or of a place that is made
@@ -124,32 +131,34 @@ module _ {K T : Type 0} where
         → (is-made s′ f ≡ true) × (put above t p f ≡ q) × (put last t t f ≤ put last t t q) × ((x : ℕ) → stands x (s′ .queue q) ≡ true → put last t t f < x)
     downs q side′ f e =
         ⊎-elim
-        (λ new. let at = new .0 in let it = new .2 in
-            ( ap (is-made s′) it ∙ g .here
-            , put-cases above t p f (λ a. a ≡ q) (λ _. sym at) (λ ne. absurd (ne it))
-            , put-cases last t t f (λ l. l ≤ put last t t q)
-                (λ _. put-cases last t t q (λ l. t ≤ l) (λ _. omega arith) (λ _. let c : last q ≡ last p = ap last at in let b = v .low in omega arith))
-                (λ ne. absurd (ne it))
-            , λ x st. put-cases last t t f (λ l. l < x) (λ _. v .first x (ap (λ i. stands x (s .queue i)) (sym at) ∙ stood q x st)) (λ ne. absurd (ne it))))
-        (λ old. let d = h .down q side′ f old in let ne = older f (d .0) in
-            ( g .others f ne ∙ d .0
-            , put-cases above t p f (λ a. a ≡ q) (λ it. absurd (ne it)) (λ _. d .1)
-            , put-cases last t t f (λ l. l ≤ put last t t q) (λ it. absurd (ne it))
-                (λ _. put-cases last t t q (λ l. last f ≤ l) (λ at. absurd (unled q side′ f old at)) (λ _. d .2))
-            , λ x st. put-cases last t t f (λ l. l < x) (λ it. absurd (ne it)) (λ _. d .3 x (stood q x st))))
+        (λ new. let at = new .0 in let it = new .2 in (
+          ap (is-made s′) it ∙ g .here,
+          put-cases above t p f (λ a. a ≡ q) (λ _. sym at) (λ ne. absurd (ne it)),
+          put-cases last t t f (λ l. l ≤ put last t t q)
+              (λ _. put-cases last t t q (λ l. t ≤ l) (λ _. omega arith) (λ _. let c : last q ≡ last p = ap last at in let b = v .low in omega arith))
+              (λ ne. absurd (ne it)),
+          λ x st. put-cases last t t f (λ l. l < x) (λ _. v .first x (ap (λ i. stands x (s .queue i)) (sym at) ∙ stood q x st)) (λ ne. absurd (ne it)),
+        ))
+        (λ old. let d = h .down q side′ f old in let ne = older f (d .0) in (
+          g .others f ne ∙ d .0,
+          put-cases above t p f (λ a. a ≡ q) (λ it. absurd (ne it)) (λ _. d .1),
+          put-cases last t t f (λ l. l ≤ put last t t q) (λ it. absurd (ne it))
+              (λ _. put-cases last t t q (λ l. last f ≤ l) (λ at. absurd (unled q side′ f old at)) (λ _. d .2)),
+          λ x st. put-cases last t t f (λ l. l < x) (λ it. absurd (ne it)) (λ _. d .3 x (stood q x st)),
+        ))
         (g .slots q side′ f e)
 
     side-clash : (q f : ℕ) → slot-at s′ q on-left ≡ leads f → slot-at s′ q on-right ≡ leads f → ⊥
     side-clash q f l r =
         ⊎-elim
         (λ new. ⊎-elim
-            (λ new′. left-right (new .1 ∙ sym (new′ .1)))
-            (λ old′. older f (h .down q on-right f old′ .0) (new .2))
-            (g .slots q on-right f r))
+        (λ new′. left-right (new .1 ∙ sym (new′ .1)))
+        (λ old′. older f (h .down q on-right f old′ .0) (new .2))
+        (g .slots q on-right f r))
         (λ old. ⊎-elim
-            (λ new′. older f (h .down q on-left f old .0) (new′ .2))
-            (λ old′. h .sides q f old old′)
-            (g .slots q on-right f r))
+        (λ new′. older f (h .down q on-left f old .0) (new′ .2))
+        (λ old′. h .sides q f old old′)
+        (g .slots q on-right f r))
         (g .slots q on-left f l)
 
     made-there : (f : ℕ) → is-made s f ≡ true → is-made s′ f ≡ true
@@ -170,11 +179,12 @@ module _ {K T : Type 0} where
       between = λ q q′ x m a b. h .between q q′ x m (still-in q x Between a) (still-in q′ x m b);
       at-gate = λ x m a. h .at-gate x m (still-in 0 x m a);
       plain = λ q x m r a num. h .plain q x m r (still-in q x m a) (ap (λ rs. numbered rs x) (sym (g .requests)) ∙ num);
-      held = λ q x st. let a = h .held q x (stood q x st) in
-          ( ap (λ f. is-station (f x)) (g .asker) ∙ a .0
-          , ap (λ d. d (s′ .asker x) .uncollected) (g .desk) ∙ ap (λ f. s .desk (f x) .uncollected) (g .asker) ∙ a .1);
+      held = λ q x st. let a = h .held q x (stood q x st) in (
+        ap (λ f. is-station (f x)) (g .asker) ∙ a .0,
+        ap (λ d. d (s′ .asker x) .uncollected) (g .desk) ∙ ap (λ f. s .desk (f x) .uncollected) (g .asker) ∙ a .1,
+      );
       hands = λ n i e. let a = h .hands n i (ap (λ d. d n .uncollected) (sym (g .desk)) ∙ e) in
-          (a .0, ap (λ f. f i) (g .asker) ∙ a .1, a .2, counts i (a .3))
+          (a .0, ap (λ f. f i) (g .asker) ∙ a .1, a .2, counts i (a .3));
     }
       where
         makers : (f : ℕ) → is-made s′ f ≡ true → (f ≡ t) ⊎ (f ≡ t → ⊥) → (0 < f) × (f ≤ given s′)

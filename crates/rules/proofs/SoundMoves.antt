@@ -101,13 +101,15 @@ module _ {K T : Type 0} (w : Kinds K T) {s : State K T} {last above : ℕ → �
         sounds-alike (alike-counted (with-waiter s f (e .number) From) (e .number) _) (sounds-of (sound-joins (count-joiner on-left From (inr own) f is)))
     sound-second own f is (leads g) other =
         sounds-of (sound-joins (joiner-again (count-joiner on-left From (inr own) f is) Upto g
-            (λ same. v .mover .sounds .sides p f is (other ∙ ap leads (sym same)))
-            (λ z. apart z) (λ z. open-end z) (λ z. shut-end z) (count-joiner on-right Upto (inr own) g other)))
+        (λ same. v .mover .sounds .sides p f is (other ∙ ap leads (sym same)))
+        (λ z. apart z) (λ z. open-end z) (λ z. shut-end z) (count-joiner on-right Upto (inr own) g other)))
       where
         apart : From ≡ Upto → ⊥
         apart z = let c : _≡_ {A = ℕ} 0 1 = cc in omega arith
+
         open-end : From ≡ Between → ⊥
         open-end z = let c : _≡_ {A = ℕ} 0 1 = cc in omega arith
+
         shut-end : Upto ≡ Between → ⊥
         shut-end z = let c : _≡_ {A = ℕ} 0 1 = cc in omega arith
 

@@ -42,24 +42,30 @@ rows-same lo lo′ (d ∷ a) (e ∷ b) u v h = ap₂ (λ x q. x ∷ q) one (rows
   where
     above-d : (x : ℕ) (m : Mode) → stands-in x m a ≡ true → d .number < x
     above-d x m st = rises-above (d .number) x a (u .1) (in-stands x m a st)
+
     above-e : (x : ℕ) (m : Mode) → stands-in x m b ≡ true → e .number < x
     above-e x m st = rises-above (e .number) x b (v .1) (in-stands x m b st)
+
     of-d : stands-in (d .number) (d .mode) (e ∷ b) ≡ true
     of-d = sym (h (d .number) (d .mode)) ∙ head-stands d a
+
     of-e : stands-in (e .number) (e .mode) (d ∷ a) ≡ true
     of-e = h (e .number) (e .mode) ∙ head-stands e b
+
     one : d ≡ e
     one =
         in-cases (d .number) (d .mode) e b of-d
         (λ n m. ap₂ (λ i j. record { number = i; mode = j }) (sym n) (sym m))
         (λ far. let more = above-e (d .number) (d .mode) far in
-            in-cases (e .number) (e .mode) d a of-e (λ n m. absurd (omega arith)) (λ back. let less = above-d (e .number) (e .mode) back in absurd (omega arith)))
+        in-cases (e .number) (e .mode) d a of-e (λ n m. absurd (omega arith)) (λ back. let less = above-d (e .number) (e .mode) back in absurd (omega arith)))
+
     number-one : d .number ≡ e .number
     number-one = ap (λ x. x .number) one
+
     rest : (x : ℕ) (m : Mode) → stands-in x m a ≡ stands-in x m b
     rest x m =
         both-ways-true (stands-in x m a) (stands-in x m b)
         (λ st. let far = above-d x m st in let same = number-one in
-            in-cases x m e b (sym (h x m) ∙ or-right (eqb (d .number) x && same-mode (d .mode) m) (stands-in x m a) st) (λ n k. absurd (omega arith)) (λ w. w))
+        in-cases x m e b (sym (h x m) ∙ or-right (eqb (d .number) x && same-mode (d .mode) m) (stands-in x m a) st) (λ n k. absurd (omega arith)) (λ w. w))
         (λ st. let far = above-e x m st in let same = number-one in
-            in-cases x m d a (h x m ∙ or-right (eqb (e .number) x && same-mode (e .mode) m) (stands-in x m b) st) (λ n k. absurd (omega arith)) (λ w. w))
+        in-cases x m d a (h x m ∙ or-right (eqb (e .number) x && same-mode (e .mode) m) (stands-in x m b) st) (λ n k. absurd (omega arith)) (λ w. w))

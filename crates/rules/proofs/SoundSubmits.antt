@@ -87,7 +87,7 @@ module _ {K T : Type 0} {s : State K T} {last above : ℕ → ℕ} (h : Sounds-b
     held-new x e =
         let own : submitted .asker x ≡ n = put-cases (s .asker) new n x (λ a. a ≡ n) (λ _. refl) (λ ne. absurd (ne (sym e))) in
         let holds-it : submitted .desk n .uncollected ≡ Some x =
-              put-cases (s .desk) n (record { note = s .desk n .note; uncollected = Some new }) n (λ d. d .uncollected ≡ Some x) (λ _. ap Some e) (λ ne. absurd (ne refl)) in
+        put-cases (s .desk) n (record { note = s .desk n .note; uncollected = Some new }) n (λ d. d .uncollected ≡ Some x) (λ _. ap Some e) (λ ne. absurd (ne refl)) in
         (ap is-station own ∙ station, ap (λ i. submitted .desk i .uncollected) own ∙ holds-it)
 
     held-old : (q x : ℕ) → stands x (s .queue q) ≡ true → (is-station (submitted .asker x) ≡ true) × (submitted .desk (submitted .asker x) .uncollected ≡ Some x)
@@ -100,12 +100,14 @@ module _ {K T : Type 0} {s : State K T} {last above : ℕ → ℕ} (h : Sounds-b
     hands i t =
         put-cases (s .desk) n (record { note = s .desk n .note; uncollected = Some new }) i
         (λ d. d .uncollected ≡ Some t → (is-station i ≡ true) × (submitted .asker t ≡ i) × (0 < t) × (t ≤ given submitted))
-        (λ at e. let same : new ≡ t = some-one new t e in let m = more in
-            ( ap is-station at ∙ station
-            , put-cases (s .asker) new n t (λ a. a ≡ i) (λ _. sym at) (λ ne. absurd (ne (sym same)))
-            , omega arith , omega arith))
+        (λ at e. let same : new ≡ t = some-one new t e in let m = more in (
+          ap is-station at ∙ station,
+          put-cases (s .asker) new n t (λ a. a ≡ i) (λ _. sym at) (λ ne. absurd (ne (sym same))),
+          omega arith,
+          omega arith,
+        ))
         (λ _ e. let v = h .hands i t e in let le = v .3 in
-            (v .0, asked t (λ same. omega arith) ∙ v .1, v .2, room t (v .3)))
+        (v .0, asked t (λ same. omega arith) ∙ v .1, v .2, room t (v .3)))
 
     placed : (f : ℕ) → is-made s f ≡ true → put last 0 new f ≡ last f
     placed f e = put-cases last 0 new f (λ l. l ≡ last f) (λ z. absurd (let v = h .made f e .0 in omega arith)) (λ _. refl)
@@ -115,10 +117,12 @@ module _ {K T : Type 0} {s : State K T} {last above : ℕ → ℕ} (h : Sounds-b
     downs q side f e =
         let d = h .down q side f e in
         let same = placed f (d .0) in
-        let most = h .lasts f in
-        ( d .0 , d .1
-        , put-cases last 0 new q (λ l. put last 0 new f ≤ l) (λ _. subst (λ l. l ≤ new) (sym same) (omega arith)) (λ _. subst (λ l. l ≤ last q) (sym same) (d .2))
-        , λ x st. subst (λ l. l < x) (sym same) (⊎-elim (λ old. d .3 x old) (λ fresh. let is = fresh .1 in omega arith) (stood q x st)))
+        let most = h .lasts f in (
+          d .0,
+          d .1,
+          put-cases last 0 new q (λ l. put last 0 new f ≤ l) (λ _. subst (λ l. l ≤ new) (sym same) (omega arith)) (λ _. subst (λ l. l ≤ last q) (sym same) (d .2)),
+          λ x st. subst (λ l. l < x) (sym same) (⊎-elim (λ old. d .3 x old) (λ fresh. let is = fresh .1 in omega arith) (stood q x st)),
+        )
 
     pub sound-submitted : Sounds-by submitted (put last 0 new) above
     sound-submitted = record {
@@ -126,9 +130,9 @@ module _ {K T : Type 0} {s : State K T} {last above : ℕ → ℕ} (h : Sounds-b
           (λ _. rises-joined 0 (s .queue 0) itself (h .rises 0) (omega arith) (λ x st. let v = h .among 0 x st .1 in omega arith)) (λ _. h .rises q);
       among = λ q x st. ⊎-elim
           (λ old. let v = h .among q x old in let le = v .1 in
-              (v .0, room x (v .1), put-cases last 0 new q (λ l. x ≤ l) (λ _. omega arith) (λ _. v .2)))
+          (v .0, room x (v .1), put-cases last 0 new q (λ l. x ≤ l) (λ _. omega arith) (λ _. v .2)))
           (λ fresh. let m = more in let is = fresh .1 in
-              (omega arith, omega arith, put-cases last 0 new q (λ l. x ≤ l) (λ _. omega arith) (λ ne. absurd (ne (fresh .0)))))
+          (omega arith, omega arith, put-cases last 0 new q (λ l. x ≤ l) (λ _. omega arith) (λ ne. absurd (ne (fresh .0)))))
           (stood q x st);
       lasts = λ q. put-cases last 0 new q (λ l. l ≤ given submitted) (λ _. let m = more in omega arith) (λ _. room (last q) (h .lasts q));
       at-places = λ q x st. ⊎-elim (λ old. h .at-places q x old) (λ fresh. inl (fresh .0)) (stood q x st);
@@ -152,7 +156,7 @@ module _ {K T : Type 0} {s : State K T} {last above : ℕ → ℕ} (h : Sounds-b
           (λ old. h .plain q x m r′ old (sym (numbered-append (s .requests) r x (h .among q x (in-stands x m (s .queue q) old) .1)) ∙ num) no)
           (λ fresh. sym (fresh .2)) (stood-in q x m a);
       held = λ q x st. ⊎-elim (λ old. held-old q x old) (λ fresh. held-new x (fresh .1)) (stood q x st);
-      hands = hands
+      hands = hands;
     }
 
   -- a finished request is collected
@@ -182,12 +186,13 @@ module _ {K T : Type 0} {s : State K T} {last above : ℕ → ℕ} (h : Sounds-b
       between = h .between;
       at-gate = h .at-gate;
       plain = h .plain;
-      held = λ q x st. let v = h .held q x st in
-          ( v .0
-          , put-cases (s .desk) n (record { note = s .desk n .note; uncollected = None }) (s .asker x) (λ d. d .uncollected ≡ Some x)
+      held = λ q x st. let v = h .held q x st in (
+        v .0,
+        put-cases (s .desk) n (record { note = s .desk n .note; uncollected = None }) (s .asker x) (λ d. d .uncollected ≡ Some x)
             (λ at. absurd (nowhere q (ap (λ i. stands i (s .queue q)) (some-one t x (sym own ∙ ap (λ i. s .desk i .uncollected) (sym at) ∙ v .1)) ∙ st)))
-            (λ _. v .1));
+            (λ _. v .1),
+      );
       hands = λ i x. put-cases (s .desk) n (record { note = s .desk n .note; uncollected = None }) i
           (λ d. d .uncollected ≡ Some x → (is-station i ≡ true) × (s .asker x ≡ i) × (0 < x) × (x ≤ given s))
-          (λ _ e. absurd (none-some x e)) (λ _ e. h .hands i x e)
+          (λ _ e. absurd (none-some x e)) (λ _ e. h .hands i x e);
     }

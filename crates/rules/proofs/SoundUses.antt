@@ -54,10 +54,11 @@ module _ {K T : Type 0} {s : State K T} (h : Sounds s) where
     fresh =
         let st = head-stood (h .facts) p e q line in
         let none = h .facts .unmade p (e .number) st in
-        let named = h .facts .among p (e .number) st .0 in
-        ( none
-        , nobody-stands (s .queue (e .number)) (λ x u.
-            ⊎-elim (λ z. omega arith) (λ made. true≢false (sym made ∙ ap isSome none)) (h .facts .at-places (e .number) x u)))
+        let named = h .facts .among p (e .number) st .0 in (
+          none,
+          nobody-stands (s .queue (e .number)) (λ x u.
+              ⊎-elim (λ z. omega arith) (λ made. true≢false (sym made ∙ ap isSome none)) (h .facts .at-places (e .number) x u)),
+        )
 
     -- and it is not the place where the head waited
     pub fresh-apart : p ≡ e .number → ⊥

@@ -29,6 +29,7 @@ lowest-passes test (suc b) p e = go (lowest-passes test b p) (lowest test b) ref
     last : (c : Bool) → test b ≡ c → cond c (Some b) None ≡ Some p → (p < suc b) × (test p ≡ true)
     last true f u = let same : b ≡ p = cc in (omega arith, ap test (sym same) ∙ f)
     last false f u = let z : _≡_ {A = ℕ} 0 1 = cc in absurd (omega arith)
+
     go : (lowest test b ≡ Some p → (p < b) × (test p ≡ true)) → (o : Option ℕ) → lowest test b ≡ o
         → elim o as (λ _. Option ℕ) [ Some i ↦ Some i | None ↦ cond (test b) (Some b) None ] ≡ Some p → (p < suc b) × (test p ≡ true)
     go ih (Some i) f u = let v = ih (f ∙ u) in (omega (arith, v .0), v .1)
@@ -48,11 +49,12 @@ turn-between i lo (x ∷ q) hi t e =
 
 -- the head of a queue of rising numbers is no higher than any that stands there
 pub lined-head : (i lo : ℕ) (e : Waiter) (q : List Waiter) (hi : ℕ) → Lined lo (e ∷ q) hi → stands i (e ∷ q) ≡ true → (lo < e .number) × (e .number ≤ i)
-lined-head i lo e q hi d f =
-    ( d .0
-    , or-cases (eqb (e .number) i) (stands i q) f
+lined-head i lo e q hi d f = (
+  d .0,
+  or-cases (eqb (e .number) i) (stands i q) f
       (λ u. let same = eqb-true (e .number) i u in omega arith)
-      (λ u. let v = stands-between i (e .number) q hi (d .1) u in omega (arith, v .0)))
+      (λ u. let v = stands-between i (e .number) q hi (d .1) u in omega (arith, v .0)),
+)
 
 module _ {K T : Type 0} (w : Kinds K T) (rs : List (Request K)) (place : ℕ → Option (Place K T)) (queue : ℕ → List Waiter) where
   -- the queue of a place of the tree

@@ -19,8 +19,12 @@ module _ {K T : Type 0} (w : Kinds K T) (l : Lawful w) where
   counts-none : (s : State K T) (t : ℕ) (touched : ℕ → Bool) → Counts w s s t (w .none) touched
   counts-none s t touched = record {
     rest = record { capacity = refl; requests = refl; asker = refl; decision = refl; desk = refl };
-    place = refl; slot = refl; answer = refl; queue = λ i e. refl; others = λ i e. refl;
-    tally = sym (neutral-right w l (s .counted t))
+    place = refl;
+    slot = refl;
+    answer = refl;
+    queue = λ i e. refl;
+    others = λ i e. refl;
+    tally = sym (neutral-right w l (s .counted t));
   }
 
   -- one after another
@@ -32,21 +36,26 @@ module _ {K T : Type 0} (w : Kinds K T) (l : Lawful w) where
       requests = d .rest .requests ∙ c .rest .requests;
       asker = d .rest .asker ∙ c .rest .asker;
       decision = d .rest .decision ∙ c .rest .decision;
-      desk = d .rest .desk ∙ c .rest .desk
+      desk = d .rest .desk ∙ c .rest .desk;
     };
     place = d .place ∙ c .place;
     slot = d .slot ∙ c .slot;
     answer = d .answer ∙ c .answer;
     queue = λ i e. d .queue i e ∙ c .queue i (sub i e);
     others = λ i e. d .others i e ∙ c .others i e;
-    tally = d .tally ∙ ap (λ v. w .joined v y) (c .tally) ∙ l .associative (s .counted t) x y
+    tally = d .tally ∙ ap (λ v. w .joined v y) (c .tally) ∙ l .associative (s .counted t) x y;
   }
 
   -- more may count as touched
   widen : (t : ℕ) (s s′ : State K T) (v : T) (near touched : ℕ → Bool) → ((i : ℕ) → touched i ≡ false → near i ≡ false) → Counts w s s′ t v near → Counts w s s′ t v touched
   widen t s s′ v near touched sub c = record {
-    rest = c .rest; place = c .place; slot = c .slot; answer = c .answer; queue = λ i e. c .queue i (sub i e);
-    others = c .others; tally = c .tally
+    rest = c .rest;
+    place = c .place;
+    slot = c .slot;
+    answer = c .answer;
+    queue = λ i e. c .queue i (sub i e);
+    others = c .others;
+    tally = c .tally;
   }
 
   -- a tree that was not touched stays drawn
@@ -73,7 +82,7 @@ module _ {K T : Type 0} (w : Kinds K T) (l : Lawful w) where
         let drawn-a : Drawn (s′ .place) (s′ .queue) (count-child w t m a) = subst (λ z. Drawn (shown w s t lo hi m z .place) (shown w s t lo hi m z .queue) (count-child w t m a)) (sym ea) (shown-drawn w l t lo hi s m a oa da) in
         let drawn-b = counts-frame s s′ t (added w lo hi m a) (topped a) b one ab db in
         let rest = steps-leave xs s′ (count-child w t m a) b (ea ∙ sym (slot-count w t m a)) eb (once-count w t m a oa) ob
-                (λ i e. ab i (sym (topped-count w t m a i) ∙ e)) (λ i e. inside-count w t m a i ∙ ba i e) drawn-a drawn-b in
+        (λ i e. ab i (sym (topped-count w t m a i) ∙ e)) (λ i e. inside-count w t m a i ∙ ba i e) drawn-a drawn-b in
         let sums : Counts w s′ (stepped-all w s′ t lo hi f xs) t (steps-added w lo hi xs a b) (λ i. topped a i || topped b i) = subst (λ v. Counts w s′ (stepped-all w s′ t lo hi f xs) t v (λ i. topped a i || topped b i)) (steps-left w t m lo hi xs a b) (widen t s′ (stepped-all w s′ t lo hi f xs) _ (λ i. topped (count-child w t m a) i || topped b i) (λ i. topped a i || topped b i) (λ i e. ap (λ v. v || topped b i) (topped-count w t m a i) ∙ e) (rest .0)) in
         (counts-then s s′ (stepped-all w s′ t lo hi f xs) t (added w lo hi m a) (steps-added w lo hi xs a b) (topped a) (λ i. topped a i || topped b i) (λ i e. or-first (topped a i) (topped b i) e) one sums, rest .1, rest .2)
     steps-leave (show on-right m ∷ xs) s a b ea eb oa ob ab ba da db =
@@ -82,7 +91,7 @@ module _ {K T : Type 0} (w : Kinds K T) (l : Lawful w) where
         let drawn-b : Drawn (s′ .place) (s′ .queue) (count-child w t m b) = subst (λ z. Drawn (shown w s t lo hi m z .place) (shown w s t lo hi m z .queue) (count-child w t m b)) (sym eb) (shown-drawn w l t lo hi s m b ob db) in
         let drawn-a = counts-frame s s′ t (added w lo hi m b) (topped b) a one ba da in
         let rest = steps-leave xs s′ a (count-child w t m b) ea (eb ∙ sym (slot-count w t m b)) oa (once-count w t m b ob)
-                (λ i e. inside-count w t m b i ∙ ab i e) (λ i e. ba i (sym (topped-count w t m b i) ∙ e)) drawn-a drawn-b in
+        (λ i e. inside-count w t m b i ∙ ab i e) (λ i e. ba i (sym (topped-count w t m b i) ∙ e)) drawn-a drawn-b in
         let sums : Counts w s′ (stepped-all w s′ t lo hi f xs) t (steps-added w lo hi xs a b) (λ i. topped a i || topped b i) = subst (λ v. Counts w s′ (stepped-all w s′ t lo hi f xs) t v (λ i. topped a i || topped b i)) (steps-right w t m lo hi xs a b) (widen t s′ (stepped-all w s′ t lo hi f xs) _ (λ i. topped a i || topped (count-child w t m b) i) (λ i. topped a i || topped b i) (λ i e. ap (λ v. topped a i || v) (topped-count w t m b i) ∙ e) (rest .0)) in
         (counts-then s s′ (stepped-all w s′ t lo hi f xs) t (added w lo hi m b) (steps-added w lo hi xs a b) (topped b) (λ i. topped a i || topped b i) (λ i e. or-second (topped a i) (topped b i) e) one sums, rest .1, rest .2)
     steps-leave (add on-left ∷ xs) s a b ea eb oa ob ab ba da db =

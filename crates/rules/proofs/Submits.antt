@@ -64,8 +64,8 @@ module _ {K T : Type 0} (w : Kinds K T) (l : Lawful w) (rs : List (Request K)) (
   good-more R now bare h g = λ k e. was-more now k h ∙ g k e
   good-more R now (leaf j) h g = (g .0, λ k e. was-more now k h ∙ g .1 k e)
   good-more R now (node p s t q a b) h g =
-      let far = lined-below p q now (g .0 .lined) in
-      ( record {
+      let far = lined-below p q now (g .0 .lined) in (
+        record {
           maker = g .0 .maker;
           made = numbered-more p (Enter (g .0 .maker)) (g .0 .made);
           maker-here = g .0 .maker-here;
@@ -73,11 +73,12 @@ module _ {K T : Type 0} (w : Kinds K T) (l : Lawful w) (rs : List (Request K)) (
           weighs = g .0 .weighs ∙ sym (ap (weight-of w R) (before-append w l rs r now h));
           lined = g .0 .lined;
           fits = queue-more R p q now h (g .0 .lined) (g .0 .fits);
-          still = λ i lo hi out k e. was-more (suc i) k (omega arith) ∙ g .0 .still i lo hi out k e ∙ sym (was-more i k (omega arith))
-        }
-      , g .1
-      , good-more (left-of w R s) (below q now) a (omega (arith, far .1)) (g .2)
-      , good-more (right-of w R s) (below q now) b (omega (arith, far .1)) (g .3))
+          still = λ i lo hi out k e. was-more (suc i) k (omega arith) ∙ g .0 .still i lo hi out k e ∙ sym (was-more i k (omega arith));
+        },
+        g .1,
+        good-more (left-of w R s) (below q now) a (omega (arith, far .1)) (g .2),
+        good-more (right-of w R s) (below q now) b (omega (arith, far .1)) (g .3),
+      )
 
   -- counts and ways see no difference
   queue-share-more : (i : ℕ) (lo hi : K) (R : K → Bool) (q : List Waiter) → i ≤ suc (length rs) → queue-share w more i lo hi R q ≡ queue-share w rs i lo hi R q
@@ -171,7 +172,7 @@ module _ {K T : Type 0} (w : Kinds K T) (l : Lawful w) (rs : List (Request K)) (
     uncounted = h .uncounted;
     walks = λ i t p noted undone.
         let back = h .walks i t p (sym (note-kept i) ∙ noted) undone in
-        record { head = back .head; request = back .request; key = back .key; asked = numbered-more w l rs r t (back .request) (back .asked); seeks = back .seeks; way = way-more w l rs r (back .key) p (Everywhere w rs) time x near (h .good) (back .way) }
+        record { head = back .head; request = back .request; key = back .key; asked = numbered-more w l rs r t (back .request) (back .asked); seeks = back .seeks; way = way-more w l rs r (back .key) p (Everywhere w rs) time x near (h .good) (back .way) };
   }
     where
       note-kept : (i : ℕ) → after-submit .desk i .note ≡ s .desk i .note

@@ -33,7 +33,7 @@ module _ {K T : Type 0} where
     rest = record { capacity = refl; requests = refl; asker = refl; decision = refl; desk = refl };
     answers = λ i e. refl;
     counted = λ i e. refl;
-    grown = λ i. ([], sym (append-nil (s .queue i)))
+    grown = λ i. ([], sym (append-nil (s .queue i)));
   }
 
   tame-then : (t : ℕ) (s s′ s″ : State K T) → Tame t s s′ → Tame t s′ s″ → Tame t s s″
@@ -43,11 +43,11 @@ module _ {K T : Type 0} where
       requests = b .rest .requests ∙ a .rest .requests;
       asker = b .rest .asker ∙ a .rest .asker;
       decision = b .rest .decision ∙ a .rest .decision;
-      desk = b .rest .desk ∙ a .rest .desk
+      desk = b .rest .desk ∙ a .rest .desk;
     };
     answers = λ i e. b .answers i e ∙ a .answers i e;
     counted = λ i e. b .counted i e ∙ a .counted i e;
-    grown = λ i. (a .grown i .0 ++ b .grown i .0, b .grown i .1 ∙ ap (λ q. q ++ b .grown i .0) (a .grown i .1) ∙ append-assoc (s .queue i) (a .grown i .0) (b .grown i .0))
+    grown = λ i. (a .grown i .0 ++ b .grown i .0, b .grown i .1 ∙ ap (λ q. q ++ b .grown i .0) (a .grown i .1) ∙ append-assoc (s .queue i) (a .grown i .0) (b .grown i .0));
   }
 
   tame-answer : (t : ℕ) (s : State K T) (v : Answer T) → Tame t s (with-answer s t v)
@@ -55,7 +55,7 @@ module _ {K T : Type 0} where
     rest = record { capacity = refl; requests = refl; asker = refl; decision = refl; desk = refl };
     answers = λ i e. put-other (s .answer) t (Some v) i e;
     counted = λ i e. refl;
-    grown = λ i. ([], sym (append-nil (s .queue i)))
+    grown = λ i. ([], sym (append-nil (s .queue i)));
   }
 
   tame-counted : (t : ℕ) (s : State K T) (v : T) → Tame t s (with-counted s t v)
@@ -63,7 +63,7 @@ module _ {K T : Type 0} where
     rest = record { capacity = refl; requests = refl; asker = refl; decision = refl; desk = refl };
     answers = λ j e. refl;
     counted = λ j e. put-other (s .counted) t v j e;
-    grown = λ j. ([], sym (append-nil (s .queue j)))
+    grown = λ j. ([], sym (append-nil (s .queue j)));
   }
 
   tame-gate : (t : ℕ) (s : State K T) (x : Slot K) → Tame t s (with-gate s x)
@@ -71,7 +71,7 @@ module _ {K T : Type 0} where
     rest = record { capacity = refl; requests = refl; asker = refl; decision = refl; desk = refl };
     answers = λ j e. refl;
     counted = λ j e. refl;
-    grown = λ j. ([], sym (append-nil (s .queue j)))
+    grown = λ j. ([], sym (append-nil (s .queue j)));
   }
 
   tame-place : (t : ℕ) (s : State K T) (p : ℕ) (f : Place K T) → Tame t s (with-place s p f)
@@ -79,7 +79,7 @@ module _ {K T : Type 0} where
     rest = record { capacity = refl; requests = refl; asker = refl; decision = refl; desk = refl };
     answers = λ j e. refl;
     counted = λ j e. refl;
-    grown = λ j. ([], sym (append-nil (s .queue j)))
+    grown = λ j. ([], sym (append-nil (s .queue j)));
   }
 
   tame-waiter : (t : ℕ) (s : State K T) (p i : ℕ) (m : Mode) → Tame t s (with-waiter s p i m)
@@ -87,7 +87,7 @@ module _ {K T : Type 0} where
     rest = record { capacity = refl; requests = refl; asker = refl; decision = refl; desk = refl };
     answers = λ j e. refl;
     counted = λ j e. refl;
-    grown = λ j. go j (eqb j p) refl
+    grown = λ j. go j (eqb j p) refl;
   }
     where
       go : (j : ℕ) (b : Bool) → eqb j p ≡ b → (more : List Waiter) × (put (s .queue) p (s .queue p ++ (record { number = i; mode = m } ∷ [])) j ≡ s .queue j ++ more)

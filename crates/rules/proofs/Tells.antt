@@ -81,9 +81,10 @@ module _ {K T : Type 0} (w : Kinds K T) (l : Lawful w) (rs : List (Request K)) (
 
   slot-tells : (R : K → Bool) (t : ℕ) (x : Tree K T) → R k ≡ true → Good w rs R t x → Slot-tells (slot-of x) t
   slot-tells R t bare here g = (λ e. g k here, λ j e. absurd (let z : _≡_ {A = ℕ} 0 1 = cc in omega arith))
-  slot-tells R t (leaf i) here g =
-      ( λ e. absurd (let z : _≡_ {A = ℕ} 0 1 = cc in omega arith)
-      , λ j e. let is : i ≡ j = cc in same-sym w l j k ∙ ap (same w k) (sym is) ∙ sym (g .1 k here))
+  slot-tells R t (leaf i) here g = (
+    λ e. absurd (let z : _≡_ {A = ℕ} 0 1 = cc in omega arith),
+    λ j e. let is : i ≡ j = cc in same-sym w l j k ∙ ap (same w k) (sym is) ∙ sym (g .1 k here),
+  )
   slot-tells R t (node f s v q a b) here g =
       (λ e. absurd (let z : _≡_ {A = ℕ} 0 1 = cc in omega arith), λ j e. absurd (let z : _≡_ {A = ℕ} 0 1 = cc in omega arith))
 
@@ -113,16 +114,19 @@ module _ {K T : Type 0} (w : Kinds K T) (l : Lawful w) (rs : List (Request K)) (
       right = b;
       made = d .0;
       slot = λ none. side-tells none (before w k s) refl;
-      way = λ none f e. let far = side-way f (before w k s) refl e in (inr (ap (last-word w rs k) (sym (d .1)) ∙ none, far .0), far .1)
+      way = λ none f e. let far = side-way f (before w k s) refl e in (inr (ap (last-word w rs k) (sym (d .1)) ∙ none, far .0), far .1);
     }
       where
         level : last-word w rs k (queue p) ≡ None → was w rs now k ≡ was w rs (below q now) k
         level none = place-tells R now p s v q n here (g .0) ∙ ap (λ o. by-word o (was w rs (below q now) k)) (ap (last-word w rs k) (sym (d .1)) ∙ none)
+
         raised : (z : Slot K) → was w rs now k ≡ was w rs (below q now) k → Slot-tells z (below q now) → Slot-tells z now
         raised z same t = (λ e. same ∙ t .0 e, λ j e. t .1 j e ∙ sym same)
+
         side-tells : last-word w rs k (queue p) ≡ None → (c : Bool) → before w k s ≡ c → Slot-tells (slot-on (drawn-place s v a b) (cond c on-left on-right)) now
         side-tells none true f = raised (slot-of a) (level none) (slot-tells (left-of w R s) (below q now) a (both-true here f) (g .2))
         side-tells none false f = raised (slot-of b) (level none) (slot-tells (right-of w R s) (below q now) b (both-true here (not-false (w .le s k) f)) (g .3))
+
         side-way : (f : ℕ) (c : Bool) → before w k s ≡ c → slot-on (drawn-place s v a b) (cond c on-left on-right) ≡ leads f → cond (before w k s) (On-way w rs k f a) (On-way w rs k f b) × (p < f)
         side-way f true u e = let t = top-way p f a e (g .1 .0) in (subst (λ c. cond c (On-way w rs k f a) (On-way w rs k f b)) (sym u) (t .0), t .1)
         side-way f false u e = let t = top-way p f b e (g .1 .1) in (subst (λ c. cond c (On-way w rs k f a) (On-way w rs k f b)) (sym u) (t .0), t .1)
@@ -131,9 +135,13 @@ module _ {K T : Type 0} (w : Kinds K T) (l : Lawful w) (rs : List (Request K)) (
     told-up : (p : ℕ) (R S : K → Bool) (now then : ℕ) (x y : Tree K T) → was w rs then k ≡ was w rs now k → ((f : ℕ) → On-way w rs k f x → On-way w rs k f y) → Told-at p R now x → Told-at p S then y
     told-up p R S now then x y same up t = record {
       word = λ d e. t .word d e ∙ sym same;
-      split = t .split; tally = t .tally; left = t .left; right = t .right; made = t .made;
+      split = t .split;
+      tally = t .tally;
+      left = t .left;
+      right = t .right;
+      made = t .made;
       slot = λ none. let old = t .slot none in (λ e. same ∙ old .0 e, λ j e. old .1 j e ∙ sym same);
-      way = λ none f e. let old = t .way none f e in (up f (old .0), old .1)
+      way = λ none f e. let old = t .way none f e in (up f (old .0), old .1);
     }
 
     pub told-on-way : (R : K → Bool) (now : ℕ) (x : Tree K T) (p : ℕ) → now ≤ suc (length rs) → R k ≡ true → Good w rs R now x → Drawn place queue x → On-way w rs k p x → Told-at p R now x
@@ -144,13 +152,14 @@ module _ {K T : Type 0} (w : Kinds K T) (l : Lawful w) (rs : List (Request K)) (
       where
         room : below q now ≤ suc (length rs)
         room = let far = lined-below f q now (g .0 .lined) in omega (arith, far .1)
+
         go : (left-of w R s k ≡ true → On-way w rs k p a → Told-at p (left-of w R s) (below q now) a) → (right-of w R s k ≡ true → On-way w rs k p b → Told-at p (right-of w R s) (below q now) b) → (c : Bool) → before w k s ≡ c → Told-at p R now (node f s v q a b)
         go one two c u =
             ⊎-elim
             (λ is. subst (λ i. Told-at i R now (node f s v q a b)) (sym is) (told-here R now f s v q a b n here g d))
             (λ down.
-              let level : was w rs now k ≡ was w rs (below q now) k = place-tells R now f s v q n here (g .0) ∙ ap (λ o. by-word o (was w rs (below q now) k)) (down .0) in
-              side c u level (down .0) (subst (λ x. cond x (On-way w rs k p a) (On-way w rs k p b)) u (down .1)))
+            let level : was w rs now k ≡ was w rs (below q now) k = place-tells R now f s v q n here (g .0) ∙ ap (λ o. by-word o (was w rs (below q now) k)) (down .0) in
+            side c u level (down .0) (subst (λ x. cond x (On-way w rs k p a) (On-way w rs k p b)) u (down .1)))
             o
           where
             side : (c : Bool) → before w k s ≡ c → was w rs now k ≡ was w rs (below q now) k → last-word w rs k q ≡ None → cond c (On-way w rs k p a) (On-way w rs k p b) → Told-at p R now (node f s v q a b)
@@ -161,32 +170,37 @@ module _ {K T : Type 0} (w : Kinds K T) (l : Lawful w) (rs : List (Request K)) (
 pub reads-gate : {K T : Type 0} (w : Kinds K T) (l : Lawful w) (rs : List (Request K)) (x : Tree K T) (time : ℕ) (s : State K T) → Holds w rs s x time → (r : Request K) (k : K) → numbered rs time ≡ Some r → sought r ≡ Some k
     → (s .slot ≡ empty → was w rs time k ≡ false) × ((j : K) → s .slot ≡ holds j → same w j k ≡ was w rs time k) × ((f : ℕ) → s .slot ≡ leads f → Walks w rs time f time x)
 reads-gate w l rs x time s h r k num seeks =
-    let t = slot-tells w l rs k (Everywhere w rs) time x refl (h .good) in
-    ( λ e. t .0 (sym (h .rooted) ∙ e)
-    , λ j e. t .1 j (sym (h .rooted) ∙ e)
-    , λ f e. record { head = refl; request = r; key = k; asked = num; seeks = seeks; way = top-way w l rs k (s .place) (s .queue) 0 f x (sym (h .rooted) ∙ e) (h .over) .0 })
+    let t = slot-tells w l rs k (Everywhere w rs) time x refl (h .good) in (
+      λ e. t .0 (sym (h .rooted) ∙ e),
+      λ j e. t .1 j (sym (h .rooted) ∙ e),
+      λ f e. record { head = refl; request = r; key = k; asked = num; seeks = seeks; way = top-way w l rs k (s .place) (s .queue) 0 f x (sym (h .rooted) ∙ e) (h .over) .0 },
+    )
 
 -- a walk's place, read for its request
 pub reads-walk : {K T : Type 0} (w : Kinds K T) (l : Lawful w) (rs : List (Request K)) (x : Tree K T) (time : ℕ) (s : State K T) → Holds w rs s x time → (t p : ℕ) (walk : Walks w rs t p time x)
     → ((d : Bool) → last-word w rs (walk .key) (s .queue p) ≡ Some d → d ≡ was w rs t (walk .key))
     × (last-word w rs (walk .key) (s .queue p) ≡ None
-      → (slot-for w s p (walk .key) ≡ empty → was w rs t (walk .key) ≡ false) × ((j : K) → slot-for w s p (walk .key) ≡ holds j → same w j (walk .key) ≡ was w rs t (walk .key))
-      × ((f : ℕ) → slot-for w s p (walk .key) ≡ leads f → Walks w rs t f time x × (p < f)))
+    → (slot-for w s p (walk .key) ≡ empty → was w rs t (walk .key) ≡ false) × ((j : K) → slot-for w s p (walk .key) ≡ holds j → same w j (walk .key) ≡ was w rs t (walk .key))
+    × ((f : ℕ) → slot-for w s p (walk .key) ≡ leads f → Walks w rs t f time x × (p < f)))
 reads-walk {K = K} {T = T} w l rs x time s h t p walk = go p (walk .way)
   where
     key : K
     key = walk .key
+
     near : time ≤ suc (length rs)
     near = in-turn-end time (s .queue 0) (suc (length rs)) (h .gate)
+
     then-now : was w rs t key ≡ was w rs time key
     then-now = ap (λ i. was w rs i key) (walk .head)
+
     no-gate : inside 0 x ≡ false
     no-gate = false-unless (inside 0 x) (λ e. let o = inside-over w rs (Everywhere w rs) time x 0 0 (h .good) (h .over) e in omega arith)
+
     go : (p : ℕ) → On-way w rs key p x
         → ((d : Bool) → last-word w rs key (s .queue p) ≡ Some d → d ≡ was w rs t key)
         × (last-word w rs key (s .queue p) ≡ None
-          → (slot-for w s p key ≡ empty → was w rs t key ≡ false) × ((j : K) → slot-for w s p key ≡ holds j → same w j key ≡ was w rs t key)
-          × ((f : ℕ) → slot-for w s p key ≡ leads f → Walks w rs t f time x × (p < f)))
+        → (slot-for w s p key ≡ empty → was w rs t key ≡ false) × ((j : K) → slot-for w s p key ≡ holds j → same w j key ≡ was w rs t key)
+        × ((f : ℕ) → slot-for w s p key ≡ leads f → Walks w rs t f time x × (p < f)))
     go zero way =
         let at = told-on-way w l rs key (s .place) (s .queue) (Everywhere w rs) time x 0 near refl (h .good) (h .drawn) way in
         absurd (clash (sym (at .made) ∙ h .others 0 no-gate .0))
@@ -195,10 +209,12 @@ reads-walk {K = K} {T = T} w l rs x time s h t p walk = go p (walk .way)
         clash c = let z : _≡_ {A = ℕ} 0 1 = cc in omega arith
     go (suc p₀) way =
         let at = told-on-way w l rs key (s .place) (s .queue) (Everywhere w rs) time x (suc p₀) near refl (h .good) (h .drawn) way in
-        let read = slot-for-made w s p₀ key (drawn-place (at .split) (at .tally) (at .left) (at .right)) (at .made) in
-        ( λ d e. at .word d e ∙ sym then-now
-        , λ none.
-            let told-slot = at .slot none in
-            ( λ e. then-now ∙ told-slot .0 (sym read ∙ e)
-            , λ j e. told-slot .1 j (sym read ∙ e) ∙ sym then-now
-            , λ f e. let on = at .way none f (sym read ∙ e) in (record { head = walk .head; request = walk .request; key = key; asked = walk .asked; seeks = walk .seeks; way = on .0 }, on .1)))
+        let read = slot-for-made w s p₀ key (drawn-place (at .split) (at .tally) (at .left) (at .right)) (at .made) in (
+          λ d e. at .word d e ∙ sym then-now,
+          λ none.
+              let told-slot = at .slot none in (
+                λ e. then-now ∙ told-slot .0 (sym read ∙ e),
+                λ j e. told-slot .1 j (sym read ∙ e) ∙ sym then-now,
+                λ f e. let on = at .way none f (sym read ∙ e) in (record { head = walk .head; request = walk .request; key = key; asked = walk .asked; seeks = walk .seeks; way = on .0 }, on .1),
+              ),
+        )

@@ -118,11 +118,11 @@ module _ {K T : Type 0} (w : Kinds K T) (l : Lawful w) where
   present-quiet rs test a zero h n q k t = let e : a ≡ 0 = omega arith in ap (λ m. present w rs m k) (sym e)
   present-quiet rs test a (suc b) h n q k t =
       ⊎-elim
-        (λ u.
-          present-same rs b k n (λ r e. q (suc b) r u (omega arith) e k t)
-            ∙ present-quiet rs test a b (omega arith) (omega arith) (λ i r c d. q i r c (omega arith)) k t)
-        (λ u. let e : a ≡ suc b = omega arith in ap (λ m. present w rs m k) (sym e))
-        (cases-lt a (suc b))
+      (λ u.
+      present-same rs b k n (λ r e. q (suc b) r u (omega arith) e k t)
+      ∙ present-quiet rs test a b (omega arith) (omega arith) (λ i r c d. q i r c (omega arith)) k t)
+      (λ u. let e : a ≡ suc b = omega arith in ap (λ m. present w rs m k) (sym e))
+      (cases-lt a (suc b))
 
   pub weight-quiet : (rs : List (Request K)) (test : K → Bool) (a b : ℕ) → a ≤ b → b ≤ length rs → Quiet w rs test a b → weight-at w test rs b ≡ weight-at w test rs a
   weight-quiet rs test a b h n q =

@@ -19,20 +19,22 @@ use Rattle.rules.proofs.Puts.{put-here, drawn-put-place, drawn-put-queue}
 module _ {K T : Type 0} (pl : ℕ → Option (Place K T)) (qu : ℕ → List Waiter) (f : ℕ) (s : K) (t v : T) (q : List Waiter) (e : Waiter) (a b : Tree K T) where
   -- a request joins a place's queue
   pub show-own : inside f a ≡ false → inside f b ≡ false → Drawn pl qu (node f s t q a b) → Drawn pl (put qu f (qu f ++ (e ∷ []))) (node f s t (q ++ (e ∷ [])) a b)
-  show-own na nb d =
-      ( d .0
-      , put-here qu f (qu f ++ (e ∷ [])) ∙ ap (λ x. x ++ (e ∷ [])) (d .1)
-      , drawn-put-queue pl qu a f (qu f ++ (e ∷ [])) na (d .2)
-      , drawn-put-queue pl qu b f (qu f ++ (e ∷ [])) nb (d .3))
+  show-own na nb d = (
+    d .0,
+    put-here qu f (qu f ++ (e ∷ [])) ∙ ap (λ x. x ++ (e ∷ [])) (d .1),
+    drawn-put-queue pl qu a f (qu f ++ (e ∷ [])) na (d .2),
+    drawn-put-queue pl qu b f (qu f ++ (e ∷ [])) nb (d .3),
+  )
 
   -- and the place's tally changes
   pub join-own : inside f a ≡ false → inside f b ≡ false → Drawn pl qu (node f s t q a b) → Drawn (put pl f (Some (drawn-place s v a b))) (put qu f (qu f ++ (e ∷ []))) (node f s v (q ++ (e ∷ [])) a b)
   join-own na nb d =
-      let shown = show-own na nb d in
-      ( put-here pl f (Some (drawn-place s v a b))
-      , shown .1
-      , drawn-put-place pl (put qu f (qu f ++ (e ∷ []))) a f (Some (drawn-place s v a b)) na (shown .2)
-      , drawn-put-place pl (put qu f (qu f ++ (e ∷ []))) b f (Some (drawn-place s v a b)) nb (shown .3))
+      let shown = show-own na nb d in (
+        put-here pl f (Some (drawn-place s v a b)),
+        shown .1,
+        drawn-put-place pl (put qu f (qu f ++ (e ∷ []))) a f (Some (drawn-place s v a b)) na (shown .2),
+        drawn-put-place pl (put qu f (qu f ++ (e ∷ []))) b f (Some (drawn-place s v a b)) nb (shown .3),
+      )
 
 -- a place hangs in neither of its own children
 pub top-left : {K T : Type 0} (w : Kinds K T) (rs : List (Request K)) (R : K → Bool) (now f : ℕ) (s : K) (t : T) (q : List Waiter) (a b : Tree K T) → Good w rs R now (node f s t q a b) → inside f a ≡ false

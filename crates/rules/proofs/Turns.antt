@@ -45,7 +45,7 @@ module _ {K T : Type 0} (w : Kinds K T) (rs : List (Request K)) (s : State K T) 
   undecided-none r e =
       open-none (s .decision r)
       (and-parts (wants (numbered (s .requests) r)) (not (isSome (s .decision r)))
-        (and-parts (leb time r) (wants (numbered (s .requests) r) && not (isSome (s .decision r))) e .1) .1)
+      (and-parts (leb time r) (wants (numbered (s .requests) r) && not (isSome (s .decision r))) e .1) .1)
 
   -- one that has its decision is not open
   decided-shut : (z : State K T) (r : ℕ) → isSome (z .decision r) ≡ true → undecided z time r ≡ false
@@ -81,45 +81,63 @@ module _ {K T : Type 0} (w : Kinds K T) (rs : List (Request K)) (s : State K T) 
     -- a note of no use is dropped
     lapse-lowers : (old : Note) → has-note old ≡ true → Within t old → Lapsed s old → Lowered (with-note s n note.None) x time n t old
     lapse-lowers note.None has v e = absurd (true≢false (sym has))
-    lapse-lowers (note.Saw r p) has v e =
-        ( note.None , note-here s note.None , tt
-        , saw-lapses (λ i. visits time i x) (undecided s time) (λ r p. heads r (s .queue p)) (λ r p. heads r (s .queue p)) t r p
+    lapse-lowers (note.Saw r p) has v e = (
+      note.None,
+      note-here s note.None,
+      tt,
+      saw-lapses (λ i. visits time i x) (undecided s time) (λ r p. heads r (s .queue p)) (λ r p. heads r (s .queue p)) t r p
           (false-unless (heads r (s .queue p)) (λ u.
-            let num = numbered-some (s .requests) r (v .0) (omega (arith, v .1)) in
-            let none = e u in
-            let some = num .1 in
-            let z : _≡_ {A = ℕ} 0 1 = cc in
-            omega arith)))
-    lapse-lowers (note.Walk r p) has v e =
-        ( note.None , note-here s note.None , tt
-        , walk-lapses (λ i. visits time i x) (undecided s time) (λ r p. heads r (s .queue p)) (λ r p. heads r (s .queue p)) t r p (v .0) (v .1) (decided-shut s r e))
+          let num = numbered-some (s .requests) r (v .0) (omega (arith, v .1)) in
+          let none = e u in
+          let some = num .1 in
+          let z : _≡_ {A = ℕ} 0 1 = cc in
+          omega arith)),
+    )
+    lapse-lowers (note.Walk r p) has v e = (
+      note.None,
+      note-here s note.None,
+      tt,
+      walk-lapses (λ i. visits time i x) (undecided s time) (λ r p. heads r (s .queue p)) (λ r p. heads r (s .queue p)) t r p (v .0) (v .1) (decided-shut s r e),
+    )
 
     -- a decision is written
     decide-lowers : (old : Note) → s .desk n .note ≡ old → Within t old → (r : ℕ) (d : Bool) → undecided s time r ≡ true → Seeks s old r
         → None-opens t (undecided s time) (undecided (with-decision s r d) time) → Lowered (with-note (with-decision s r d) n note.None) x time n t old
     decide-lowers note.None desk v r d e seeks kept = absurd seeks
-    decide-lowers (note.Saw u p) desk v r d e seeks kept =
-        ( note.None , note-here (with-decision s r d) note.None , tt
-        , saw-decides (λ i. visits time i x) (undecided s time) (λ r p. heads r (s .queue p)) (λ r p. heads r (s .queue p)) t u p (undecided (with-decision s r d) time) kept
-          (v .0) (v .1) (ap (undecided s time) seeks ∙ e) (ap (undecided (with-decision s r d) time) seeks ∙ decided-shut (with-decision s r d) r (ap isSome (put-here (s .decision) r (Some d)))))
-    decide-lowers (note.Walk u p) desk v r d e seeks kept =
-        ( note.None , note-here (with-decision s r d) note.None , tt
-        , walk-decides (λ i. visits time i x) (undecided s time) (λ r p. heads r (s .queue p)) (λ r p. heads r (s .queue p)) t u p (undecided (with-decision s r d) time) kept
+    decide-lowers (note.Saw u p) desk v r d e seeks kept = (
+      note.None,
+      note-here (with-decision s r d) note.None,
+      tt,
+      saw-decides (λ i. visits time i x) (undecided s time) (λ r p. heads r (s .queue p)) (λ r p. heads r (s .queue p)) t u p (undecided (with-decision s r d) time) kept
+          (v .0) (v .1) (ap (undecided s time) seeks ∙ e) (ap (undecided (with-decision s r d) time) seeks ∙ decided-shut (with-decision s r d) r (ap isSome (put-here (s .decision) r (Some d)))),
+    )
+    decide-lowers (note.Walk u p) desk v r d e seeks kept = (
+      note.None,
+      note-here (with-decision s r d) note.None,
+      tt,
+      walk-decides (λ i. visits time i x) (undecided s time) (λ r p. heads r (s .queue p)) (λ r p. heads r (s .queue p)) t u p (undecided (with-decision s r d) time) kept
           (v .0) (v .1) (ap (undecided s time) seeks ∙ e) (ap (undecided (with-decision s r d) time) seeks ∙ decided-shut (with-decision s r d) r (ap isSome (put-here (s .decision) r (Some d))))
-          (walk-low n u p desk (ap (undecided s time) seeks ∙ e)))
+          (walk-low n u p desk (ap (undecided s time) seeks ∙ e)),
+    )
 
     -- a walk goes one place on
     walk-lowers : (old : Note) → s .desk n .note ≡ old → Within t old → (r f : ℕ) → undecided s time r ≡ true → Nears s old r f → Lowered (with-note s n (note.Walk r f)) x time n t old
     walk-lowers note.None desk v r f e nears = absurd nears
     walk-lowers (note.Saw u p) desk v r f e nears =
-        subst (λ i. Lowered (with-note s n (note.Walk i f)) x time n t (note.Saw u p)) (nears .0)
-        ( note.Walk u f , note-here s (note.Walk u f) , v
-        , walk-begins (λ i. visits time i x) (undecided s time) (λ r p. heads r (s .queue p)) (λ r p. heads r (s .queue p)) t u p f (v .0) (v .1) (ap (undecided s time) (nears .0) ∙ e) (nears .1))
+        subst (λ i. Lowered (with-note s n (note.Walk i f)) x time n t (note.Saw u p)) (nears .0) (
+          note.Walk u f,
+          note-here s (note.Walk u f),
+          v,
+          walk-begins (λ i. visits time i x) (undecided s time) (λ r p. heads r (s .queue p)) (λ r p. heads r (s .queue p)) t u p f (v .0) (v .1) (ap (undecided s time) (nears .0) ∙ e) (nears .1),
+        )
     walk-lowers (note.Walk u p) desk v r f e nears =
-        subst (λ i. Lowered (with-note s n (note.Walk i f)) x time n t (note.Walk u p)) (nears .0)
-        ( note.Walk u f , note-here s (note.Walk u f) , v
-        , walk-goes (λ i. visits time i x) (undecided s time) (λ r p. heads r (s .queue p)) (λ r p. heads r (s .queue p)) t u p f (v .0) (v .1) (ap (undecided s time) (nears .0) ∙ e)
-          (walk-low n u p desk (ap (undecided s time) (nears .0) ∙ e)) (nears .1))
+        subst (λ i. Lowered (with-note s n (note.Walk i f)) x time n t (note.Walk u p)) (nears .0) (
+          note.Walk u f,
+          note-here s (note.Walk u f),
+          v,
+          walk-goes (λ i. visits time i x) (undecided s time) (λ r p. heads r (s .queue p)) (λ r p. heads r (s .queue p)) t u p f (v .0) (v .1) (ap (undecided s time) (nears .0) ∙ e)
+              (walk-low n u p desk (ap (undecided s time) (nears .0) ∙ e)) (nears .1),
+        )
 
     same-tree : (S s′ : State K T) (y : Tree K T) (time′ : ℕ) (old : Note) → s′ ≡ S → y ≡ x → time′ ≡ time → Lowered S x time n t old → Lowered s′ y time′ n t old
     same-tree S s′ y time′ old is tree now l =
@@ -132,19 +150,25 @@ module _ {K T : Type 0} (w : Kinds K T) (rs : List (Request K)) (s : State K T) 
     deed-lowers s′ y time′ old g desk has v (decided r d is tree now e seeks) =
         same-tree (with-note (with-decision s r d) n note.None) s′ y time′ old is tree now
         (decide-lowers old desk v r d e seeks
-          (subst (λ u. None-opens t (undecided s time) (undecided u time)) is
-            (subst (λ u. None-opens t (undecided s time) (undecided s′ u)) now (deed-gentle w rs s s′ x y time time′ t h n old g (decided r d is tree now e seeks) .opens))))
+        (subst (λ u. None-opens t (undecided s time) (undecided u time)) is
+        (subst (λ u. None-opens t (undecided s time) (undecided s′ u)) now (deed-gentle w rs s s′ x y time time′ t h n old g (decided r d is tree now e seeks) .opens))))
     deed-lowers s′ y time′ old g desk has v (walked r f is tree now e nears) = same-tree (with-note s n (note.Walk r f)) s′ y time′ old is tree now (walk-lowers old desk v r f e nears)
     deed-lowers s′ y time′ old g desk has v (moved p m z is seen by) =
         let ok = deed-gentle w rs s s′ x y time time′ t h n old g (moved p m z is seen by) in
-        let u : Within t (note.Saw m p) = subst (Within t) seen v in
-        ( note.None , ap (λ z. z .desk n .note) is ∙ note-here z note.None , tt
-        , subst (λ o. suc (measure s′ y time′ note.None t) ≤ measure s x time o t) (sym seen)
-          (saw-moves (λ i. visits time i x) (undecided s time) (λ r p. heads r (s .queue p)) (λ r p. heads r (s′ .queue p)) t m p (undecided s′ time′) (ok .opens)
-            (λ i. visits time′ i y) (u .0) (u .1) (ok .fewer) (move-visits w rs s z x y time time′ p m h (g .good) (g .over) by .0)))
+        let u : Within t (note.Saw m p) = subst (Within t) seen v in (
+          note.None,
+          ap (λ z. z .desk n .note) is ∙ note-here z note.None,
+          tt,
+          subst (λ o. suc (measure s′ y time′ note.None t) ≤ measure s x time o t) (sym seen)
+              (saw-moves (λ i. visits time i x) (undecided s time) (λ r p. heads r (s .queue p)) (λ r p. heads r (s′ .queue p)) t m p (undecided s′ time′) (ok .opens)
+              (λ i. visits time′ i y) (u .0) (u .1) (ok .fewer) (move-visits w rs s z x y time time′ p m h (g .good) (g .over) by .0)),
+        )
 
     -- a follow without a note lowers it too, if it answers the head of a queue, a request up to t
     pub follow-lowers : (r p : ℕ) → heads r (s .queue p) ≡ true → 1 ≤ r → r ≤ t → Lowered (with-note s n (note.Saw r p)) x time n t note.None
-    follow-lowers r p e lo hi =
-        ( note.Saw r p , note-here s (note.Saw r p) , (lo, hi)
-        , note-taken (λ i. visits time i x) (undecided s time) (λ r p. heads r (s .queue p)) (λ r p. heads r (s .queue p)) t r p e)
+    follow-lowers r p e lo hi = (
+      note.Saw r p,
+      note-here s (note.Saw r p),
+      (lo, hi),
+      note-taken (λ i. visits time i x) (undecided s time) (λ r p. heads r (s .queue p)) (λ r p. heads r (s .queue p)) t r p e,
+    )

@@ -96,16 +96,16 @@ module _ {K T : Type 0} (w : Kinds K T) (rs : List (Request K)) where
       let two = waiting-unmade (right-of w R s) (below q now) b i k num (g .3) in
       waiting-cases i p s t q a b e
       (λ h. let far = stands-between i p q now (g .0 .lined) h in
-            let first = head-first i p q now (g .0 .lined) h in
-            neither (apart-eqb i p (λ z. omega (arith, far .0)))
-            (false-unless (inside i a) (λ z. let y = inside-before (left-of w R s) (below q now) a i (g .2) z in omega arith))
-            (false-unless (inside i b) (λ z. let y = inside-before (right-of w R s) (below q now) b i (g .3) z in omega arith)))
+      let first = head-first i p q now (g .0 .lined) h in
+      neither (apart-eqb i p (λ z. omega (arith, far .0)))
+      (false-unless (inside i a) (λ z. let y = inside-before (left-of w R s) (below q now) a i (g .2) z in omega arith))
+      (false-unless (inside i b) (λ z. let y = inside-before (right-of w R s) (below q now) b i (g .3) z in omega arith)))
       (λ h. neither (apart-eqb i p (λ z. let y = waiting-over (left-of w R s) (below q now) a p i (g .2) (g .1 .0) h in omega arith))
-            (one h)
-            (false-unless (inside i b) (λ z. makers-apart w rs R s i (k, num, waiting-key (left-of w R s) (below q now) a i k num (g .2) h) (inside-maker w rs (right-of w R s) (below q now) b i (g .3) z))))
+      (one h)
+      (false-unless (inside i b) (λ z. makers-apart w rs R s i (k, num, waiting-key (left-of w R s) (below q now) a i k num (g .2) h) (inside-maker w rs (right-of w R s) (below q now) b i (g .3) z))))
       (λ h. neither (apart-eqb i p (λ z. let y = waiting-over (right-of w R s) (below q now) b p i (g .3) (g .1 .1) h in omega arith))
-            (false-unless (inside i a) (λ z. makers-apart w rs R s i (inside-maker w rs (left-of w R s) (below q now) a i (g .2) z) (k, num, waiting-key (right-of w R s) (below q now) b i k num (g .3) h)))
-            (two h))
+      (false-unless (inside i a) (λ z. makers-apart w rs R s i (inside-maker w rs (left-of w R s) (below q now) a i (g .2) z) (k, num, waiting-key (right-of w R s) (below q now) b i k num (g .3) h)))
+      (two h))
     where
       neither : eqb i p ≡ false → inside i a ≡ false → inside i b ≡ false → inside i (node p s t q a b) ≡ false
       neither u v z = or-neither (eqb i p) (inside i a || inside i b) u (or-neither (inside i a) (inside i b) v z)

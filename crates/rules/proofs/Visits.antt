@@ -176,6 +176,7 @@ module _ {K T : Type 0} (w : Kinds K T) (rs : List (Request K)) where
           makers-apart w rs R s i
           (inside-maker w rs (left-of w R s) (below q now) a i (g .2) (both .0))
           (inside-maker w rs (right-of w R s) (below q now) b i (g .3) (both .1)))
+
       alone : (i : ℕ) → (eqb i p && (inside i a || inside i b)) ≡ false
       alone i = false-unless (eqb i p && (inside i a || inside i b)) (λ e.
           let both = and-parts (eqb i p) (inside i a || inside i b) e in

@@ -27,10 +27,10 @@ module _ {K T : Type 0} (w : Kinds K T) (rs : List (Request K)) where
       ⊎-elim
       (λ e. or-left (eqb p f) (inside p a || inside p b) (eq-eqb p f e))
       (λ h. or-right (eqb p f) (inside p a || inside p b)
-          (bool-case (before w k s) (λ c. cond c (On-way w rs k p a) (On-way w rs k p b) → (inside p a || inside p b) ≡ true)
-            (λ u. or-left (inside p a) (inside p b) (way-inside k p a u))
-            (λ u. or-right (inside p a) (inside p b) (way-inside k p b u))
-            (h .1)))
+      (bool-case (before w k s) (λ c. cond c (On-way w rs k p a) (On-way w rs k p b) → (inside p a || inside p b) ≡ true)
+      (λ u. or-left (inside p a) (inside p b) (way-inside k p a u))
+      (λ u. or-right (inside p a) (inside p b) (way-inside k p b u))
+      (h .1)))
       o
 
   -- all places of a tree were made before its time

@@ -50,6 +50,7 @@ module _ {K T : Type 0} (w : Kinds K T) (l : Lawful w) where
     where
       behind : (j : K) → has w j (keep test ks) ≡ true → before w k j ≡ true
       behind j e = let f = has-keep test j ks in behind-has w l k j ks (p .0) (grind arith)
+
       go : Ascends w (keep test ks) → (b : Bool) → Ascends w (cond b (k ∷ keep test ks) (keep test ks))
       go ih true = (has-all-behind w l k (keep test ks) behind, ih)
       go ih false = ih
@@ -60,8 +61,8 @@ module _ {K T : Type 0} (w : Kinds K T) (l : Lawful w) where
       let a = weight-keep test ks in
       let b = weight-keep test js in
       let c =
-          same-rows w l (keep test ks) (keep test js) (ascends-keep test ks p) (ascends-keep test js q)
-            (λ k. let d = has-keep test k ks in let e = has-keep test k js in let f = h k in grind arith) in
+      same-rows w l (keep test ks) (keep test js) (ascends-keep test ks p) (ascends-keep test js q)
+      (λ k. let d = has-keep test k ks in let e = has-keep test k js in let f = h k in grind arith) in
       cc
 
   -- tests that agree on the keys of the row weigh the same
@@ -85,7 +86,7 @@ module _ {K T : Type 0} (w : Kinds K T) (l : Lawful w) where
   weight-union a b [] h = sym (l .neutral (w .none))
   weight-union a b (k ∷ ks) h =
       ap₂ (w .joined) (one (a k) (b k) (h k)) (weight-union a b ks h)
-        ∙ exchange (own a k) (own b k) (weight-of w a ks) (weight-of w b ks)
+      ∙ exchange (own a k) (own b k) (weight-of w a ks) (weight-of w b ks)
     where
       one : (c d : Bool) → (c ≡ true → d ≡ false) → cond (c || d) (w .weighed k) (w .none) ≡ w .joined (cond c (w .weighed k) (w .none)) (cond d (w .weighed k) (w .none))
       one true d e = rw (e refl) (sym (neutral-right (w .weighed k)))
@@ -95,8 +96,8 @@ module _ {K T : Type 0} (w : Kinds K T) (l : Lawful w) where
   pub weight-one : (test : K → Bool) (j : K) (ks : List K) → Ascends w ks → test j ≡ true → ((k : K) → test k ≡ true → has w k ks ≡ same w k j) → weight-of w test ks ≡ w .weighed j
   weight-one test j ks p t h =
       weight-same-keys test ks (j ∷ []) p (tt, tt) (λ k e. let f = h k e in grind arith)
-        ∙ ap (λ c. w .joined (cond c (w .weighed j) (w .none)) (w .none)) t
-        ∙ neutral-right (w .weighed j)
+      ∙ ap (λ c. w .joined (cond c (w .weighed j) (w .none)) (w .none)) t
+      ∙ neutral-right (w .weighed j)
 
   pub weight-with-key : (test : K → Bool) (k : K) (ks : List K) → Ascends w ks → has w k ks ≡ false → weight-of w test (with-key w k ks) ≡ w .joined (weight-of w test ks) (cond (test k) (w .weighed k) (w .none))
   weight-with-key test k [] p n = l .commutative (own test k) (w .none)
@@ -117,9 +118,11 @@ module _ {K T : Type 0} (w : Kinds K T) (l : Lawful w) where
     where
       back : T
       back = cond (test k) (w .opposed (w .weighed k)) (w .none)
+
       undone : (b : Bool) → w .joined (cond b (w .weighed k) (w .none)) (cond b (w .opposed (w .weighed k)) (w .none)) ≡ w .none
       undone true = l .cancelling (w .weighed k)
       undone false = l .neutral (w .none)
+
       go : (has w k xs ≡ true → weight-of w test (without-key w k xs) ≡ w .joined (weight-of w test xs) back) → (b : Bool) → same w k x ≡ b → weight-of w test (without-key w k (x ∷ xs)) ≡ w .joined (weight-of w test (x ∷ xs)) back
       go ih true e =
           let here = same-eq w l k x e in

@@ -20,7 +20,7 @@ kinds-of k t = record {
   none = t .none;
   joined = t .joined;
   opposed = t .opposed;
-  weighed = t .weighed
+  weighed = t .weighed;
 }
 
 -- the laws of order and of joining

@@ -68,7 +68,7 @@ module _ {K T : Type 0} (w : Kinds K T) where
     split = greater w j k;
     left = holds (lesser w j k);
     right = holds (greater w j k);
-    tally = w .joined (w .weighed j) (w .weighed k)
+    tally = w .joined (w .weighed j) (w .weighed k);
   }
 
   module _ (s : State K T) where

@@ -72,5 +72,5 @@ opening w cells = record {
   slot = empty;
   place = λ _. option.None;
   queue = λ _. [];
-  desk = λ _. record { note = note.None; uncollected = option.None }
+  desk = λ _. record { note = note.None; uncollected = option.None };
 }

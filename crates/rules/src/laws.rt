@@ -11,5 +11,4 @@ use tallies::Tally;
 pub fn laws_stand<K: Key, T: Tally<K>>()
     ensures laws { λ _. ⌜ Register-laws (kinds-of K·Key T·Tally) ⌝ }
     ensures facts { λ _. ⌜ Register-facts (kinds-of K·Key T·Tally) ⌝ }
-{
-}
+{}

@@ -54,6 +54,7 @@ route-in-parts m n (Some c) k h = go (is-signal m && is-signal n) refl
   where
     made : Route
     made = route-made (record { entry = m; exit = n; class = c })
+
     go : (b : Bool) → (is-signal m && is-signal n) ≡ b → (k .entry ≡ m) × (k .exit ≡ n) × (Some c ≡ Some (k .class))
     go true e =
         let known : Some made ≡ Some k = rw e at h in
@@ -97,6 +98,7 @@ route-read-class a b c d e class h k same =
       where
         made : Route
         made = route-made (record { entry = m; exit = n; class = class })
+
         by : (t : Bool) → cond t (Ok made) (Err OutOfRange) ≡ in-range (cond t (Some made) None)
         by true = refl
         by false = refl

@@ -9,5 +9,5 @@ abbrev pub pair-form : {A B : Type 0} → TallyForm A → TallyForm B → TallyF
 pair-form a b = record {
   size = a .size + b .size;
   written = λ t. a .written (t .first) ++ b .written (t .second);
-  read = λ bytes. record { first = a .read (take (a .size) bytes); second = b .read (drop (a .size) bytes) }
+  read = λ bytes. record { first = a .read (take (a .size) bytes); second = b .read (drop (a .size) bytes) };
 }

@@ -20,7 +20,12 @@ pub fn four_bytes(number: u32) -> [u8; 4]
 {
     let high = number / 65536;
     let low = number % 65536;
-    [(high / 256) as u8, (high % 256) as u8, (low / 256) as u8, (low % 256) as u8]
+    [
+        (high / 256) as u8,
+        (high % 256) as u8,
+        (low / 256) as u8,
+        (low % 256) as u8,
+    ]
 }
 
 pub fn from_four(a: u8, b: u8, c: u8, d: u8) -> u32

@@ -39,6 +39,15 @@ pub impl StoredKey for Section as StoredSection {
         if row.len() < 8 {
             return Err(Refusal::TooShort);
         }
-        section_of([row[0], row[1], row[2], row[3], row[4], row[5], row[6], row[7]])
+        section_of([
+            row[0],
+            row[1],
+            row[2],
+            row[3],
+            row[4],
+            row[5],
+            row[6],
+            row[7],
+        ])
     }
 }

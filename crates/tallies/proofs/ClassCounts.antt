@@ -14,7 +14,7 @@ classes-path a b p q r t = λ i. record {
   c = r i;
   s = t i;
   front = isProp→PathP (λ j. (p j < 2 ^ 16) × (q j < 2 ^ 16)) (λ j. ×-prop le-prop le-prop) (a .front) (b .front) i;
-  back = isProp→PathP (λ j. (r j < 2 ^ 16) × (t j < 2 ^ 16)) (λ j. ×-prop le-prop le-prop) (a .back) (b .back) i
+  back = isProp→PathP (λ j. (r j < 2 ^ 16) × (t j < 2 ^ 16)) (λ j. ×-prop le-prop le-prop) (a .back) (b .back) i;
 }
 
 -- what is left of what is left

@@ -10,7 +10,7 @@ use Rattle.tallies.specs.Numbers.{number-of}
 pub number-path : (a b : Number) → a .value ≡ b .value → a ≡ b
 number-path a b p = λ i. record {
   value = p i;
-  fits = isProp→PathP (λ j. p j < 2 ^ 32) (λ j. le-prop) (a .fits) (b .fits) i
+  fits = isProp→PathP (λ j. p j < 2 ^ 32) (λ j. le-prop) (a .fits) (b .fits) i;
 }
 
 -- what is left of what is left

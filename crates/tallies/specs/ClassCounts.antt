@@ -14,7 +14,7 @@ classes-of m w c s = record {
   c = c % 2 ^ 16;
   s = s % 2 ^ 16;
   front = (mod-lt m (lit< tt), mod-lt w (lit< tt));
-  back = (mod-lt c (lit< tt), mod-lt s (lit< tt))
+  back = (mod-lt c (lit< tt), mod-lt s (lit< tt));
 }
 
 abbrev pub classes-joined : Classes → Classes → Classes

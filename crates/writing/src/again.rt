@@ -15,7 +15,10 @@ use stored::StoredKey;
 use stored::StoredTally;
 
 // Writes the rows of an accepted archive: that very file, byte for byte.
-pub fn write_again<'a, K: StoredKey, T: StoredTally<K>>(archive: &Archive<'a, K, T>, buffer: &mut [u8]) -> Result<usize, Refusal>
+pub fn write_again<'a, K: StoredKey, T: StoredTally<K>>(
+    archive: &Archive<'a, K, T>,
+    buffer: &mut [u8],
+) -> Result<usize, Refusal>
     ensures answer { λ r. ⌜ ((rows : List (Row K T)) → Opened (K·StoredKey .form) (T·StoredTally .form) (now (archive .entry)) rows → length (held (now (archive .entry) .bytes)) ≤ length (now (buffer .entry)) → r ≡ Ok (length (held (now (archive .entry) .bytes)))) ⌝ }
     ensures after { λ r. ⌜ ((rows : List (Row K T)) → Opened (K·StoredKey .form) (T·StoredTally .form) (now (archive .entry)) rows → length (held (now (archive .entry) .bytes)) ≤ length (now (buffer .entry)) → now (buffer .exit) ≡ held (now (archive .entry) .bytes) ++ drop (length (held (now (archive .entry) .bytes))) (now (buffer .entry))) ⌝ }
 {

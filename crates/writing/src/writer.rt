@@ -17,7 +17,10 @@ use stored::WIDEST;
 const HEADER_LENGTH: usize = 36;
 
 // Writes the file of the source's rows to the front of the bytes, and answers its length.
-pub fn write<K: StoredKey, T: StoredTally<K>, S: Rows<K, T>>(source: &S, buffer: &mut [u8]) -> Result<usize, Refusal>
+pub fn write<K: StoredKey, T: StoredTally<K>, S: Rows<K, T>>(
+    source: &S,
+    buffer: &mut [u8],
+) -> Result<usize, Refusal>
     ensures answer { λ r. ⌜ ((rows : List (Row K T)) → S·Rows .has (now (source .entry)) rows → r ≡ write-answer (K·StoredKey .form) (T·StoredTally .form) rows (now (buffer .entry))) ⌝ }
     ensures after { λ r. ⌜ ((rows : List (Row K T)) → S·Rows .has (now (source .entry)) rows → now (buffer .exit) ≡ write-after (K·StoredKey .form) (T·StoredTally .form) rows (now (buffer .entry))) ⌝ }
     ensures kept { λ r. ⌜ (isOk r ≡ false → now (buffer .exit) ≡ now (buffer .entry)) ⌝ }

@@ -9,6 +9,7 @@ use super::Route;
 use super::RouteFields;
 
 const LEAST_SIGNAL: u16 = 1;
+
 const GREATEST_SIGNAL: u16 = 9_999;
 
 fn is_signal(number: u32) -> bool

@@ -68,6 +68,8 @@ pub impl Key for Section as SectionKey {
         if is_section(&fields) {
             return Section { bytes: fields };
         }
-        Section { bytes: *b"A\0\0\0\0\0\0\0" }
+        Section {
+            bytes: *b"A\0\0\0\0\0\0\0",
+        }
     }
 }

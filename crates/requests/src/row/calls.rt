@@ -3,14 +3,18 @@ ghost use mathlib.Core.Path.{_≡_};
 ghost use mathlib.Core.Bool.{true, false};
 ghost use Rattle.std.specs.Options.{Cases as BySome};
 ghost use Rattle.requests.specs.Fits.{fits};
-use super::Row;
 use super::super::answer::Answer;
 use super::super::request::Request;
 use super::super::station::Station;
+use super::Row;
 
 impl<K: Copy, T: Copy> Row<K, T> {
     // The row of these parts; none where the answer is not one that such a request gets.
-    pub fn new(station: Station, request: Request<K>, answer: Option<Answer<T>>) -> Option<Row<K, T>>
+    pub fn new(
+        station: Station,
+        request: Request<K>,
+        answer: Option<Answer<T>>,
+    ) -> Option<Row<K, T>>
         ensures { λ r. ⌜ BySome r (fits request answer ≡ false) (λ w. (w .station ≡ station) × (w .request ≡ request) × (w .answer ≡ answer)) ⌝ }
     {
         if let Some(given) = &answer {

@@ -76,7 +76,7 @@ answers-fault-requires g c κs =
     record {
       widths = (known .key-fits, (known .tally-fits, known .few));
       rows = (asked, answered);
-      short = (omega arith, omega arith)
+      short = (omega arith, omega arith);
     }
 
 pub returns : need.returns

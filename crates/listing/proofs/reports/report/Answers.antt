@@ -12,9 +12,9 @@ returns-in-Err g c =
     record {
       rows = λ rs f. absurd (told .accepted rs f);
       fault = λ f e.
-        let both : Some (c .in-Err .fault) ≡ Some f = sym (told .first) ∙ e in
-        let same : c .in-Err .fault ≡ f = cc in
-        made-weaker (c .fault-text .result) _ _ (λ s h. h ∙ ap₂ (λ k t. fault-text k t (c .args .bytes .now) (c .in-Err .fault)) (c .width .ensures) (c .width-in-Err .ensures) ∙ ap (fault-text (width-of (g .K·StoredKey .form .size)) (width-of (g .T·StoredTally .form .size)) (c .args .bytes .now)) same) (c .fault-text .ensures);
+          let both : Some (c .in-Err .fault) ≡ Some f = sym (told .first) ∙ e in
+          let same : c .in-Err .fault ≡ f = cc in
+          made-weaker (c .fault-text .result) _ _ (λ s h. h ∙ ap₂ (λ k t. fault-text k t (c .args .bytes .now) (c .in-Err .fault)) (c .width .ensures) (c .width-in-Err .ensures) ∙ ap (fault-text (width-of (g .K·StoredKey .form .size)) (width-of (g .T·StoredTally .form .size)) (c .args .bytes .now)) same) (c .fault-text .ensures);
       written = c .«open» .ensures .written;
-      read = c .«open» .ensures .read
+      read = c .«open» .ensures .read;
     }

@@ -17,6 +17,6 @@ returns g c =
       associative = t .associative;
       commutative = t .commutative;
       neutral = t .neutral;
-      cancelling = t .cancelling
+      cancelling = t .cancelling;
     } in
     record { laws = register-laws w lawful; facts = register-facts w lawful }

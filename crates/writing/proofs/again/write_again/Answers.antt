@@ -7,5 +7,5 @@ pub returns : need.returns
 returns g c =
     record {
       answer = λ rows o room. c .write .ensures .answer rows o ∙ again-answer (g .K·StoredKey .form) (g .T·StoredTally .form) (c .args .archive .now .bytes .now) (c .args .buffer .now) rows (o .file) room;
-      after = λ rows o room. c .write .ensures .after rows o ∙ again-after (g .K·StoredKey .form) (g .T·StoredTally .form) (c .args .archive .now .bytes .now) (c .args .buffer .now) rows (o .file) room
+      after = λ rows o room. c .write .ensures .after rows o ∙ again-after (g .K·StoredKey .form) (g .T·StoredTally .form) (c .args .archive .now .bytes .now) (c .args .buffer .now) rows (o .file) room;
     }

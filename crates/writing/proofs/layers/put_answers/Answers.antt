@@ -17,13 +17,13 @@ part-put-given-answer-end g c =
 pub loop-i-again : need.loop-i-again
 loop-i-again g c =
     λ rows h e.
-      let laws : TallyLaws (g .T·StoredTally .form) = let m = g .T·StoredTally·met in record { long = m .long; reread = m .reread; rewritten = m .rewritten } in
-      let long : (w : Row (g .K .Denot) (g .T .Denot)) → length (answer-row (g .T·StoredTally .form) w) ≡ (4 + c .args .width) = λ w. answer-row-long (g .T·StoredTally .form) laws w ∙ omega (arith, c .pre .1 .0) in
-      row-put (answer-row (g .T·StoredTally .form)) (4 + c .args .width) long rows (c .args .count) (c .loop-i .i) (c .loop-i .part) (c .put-given-answer .last .part) (c .row .result) (c .loop-i-test .taken) e (c .loop-i .kept .part ∙ c .pre .1 .1 .1) (c .row .ensures rows h) (c .put-given-answer .ensures .written) (c .loop-i .inv rows h e)
+    let laws : TallyLaws (g .T·StoredTally .form) = let m = g .T·StoredTally·met in record { long = m .long; reread = m .reread; rewritten = m .rewritten } in
+    let long : (w : Row (g .K .Denot) (g .T .Denot)) → length (answer-row (g .T·StoredTally .form) w) ≡ (4 + c .args .width) = λ w. answer-row-long (g .T·StoredTally .form) laws w ∙ omega (arith, c .pre .1 .0) in
+    row-put (answer-row (g .T·StoredTally .form)) (4 + c .args .width) long rows (c .args .count) (c .loop-i .i) (c .loop-i .part) (c .put-given-answer .last .part) (c .row .result) (c .loop-i-test .taken) e (c .loop-i .kept .part ∙ c .pre .1 .1 .1) (c .row .ensures rows h) (c .put-given-answer .ensures .written) (c .loop-i .inv rows h e)
 
 pub returns : need.returns
 returns g c =
     λ rows h e.
-      let laws : TallyLaws (g .T·StoredTally .form) = let m = g .T·StoredTally·met in record { long = m .long; reread = m .reread; rewritten = m .rewritten } in
-      let long : (w : Row (g .K .Denot) (g .T .Denot)) → length (answer-row (g .T·StoredTally .form) w) ≡ (4 + c .args .width) = λ w. answer-row-long (g .T·StoredTally .form) laws w ∙ omega (arith, c .pre .1 .0) in
-      all-put (answer-row (g .T·StoredTally .form)) (4 + c .args .width) long rows (c .args .count) (c .loop-i .i) (c .loop-i .part) e (c .loop-i-test .left) (c .loop-i .kept .i-end) (c .loop-i .kept .part ∙ c .pre .1 .1 .1) (c .loop-i .inv rows h e)
+    let laws : TallyLaws (g .T·StoredTally .form) = let m = g .T·StoredTally·met in record { long = m .long; reread = m .reread; rewritten = m .rewritten } in
+    let long : (w : Row (g .K .Denot) (g .T .Denot)) → length (answer-row (g .T·StoredTally .form) w) ≡ (4 + c .args .width) = λ w. answer-row-long (g .T·StoredTally .form) laws w ∙ omega (arith, c .pre .1 .0) in
+    all-put (answer-row (g .T·StoredTally .form)) (4 + c .args .width) long rows (c .args .count) (c .loop-i .i) (c .loop-i .part) e (c .loop-i-test .left) (c .loop-i .kept .i-end) (c .loop-i .kept .part ∙ c .pre .1 .1 .1) (c .loop-i .inv rows h e)

@@ -15,7 +15,7 @@ returns-then-buffer-end g c =
     record {
       answer = λ rows h. short-answer keys tallies key-laws tally-laws rows (c .count-count .result) (c .width-key .result) (c .width-tally .result) (c .count-count .ensures .all rows h) (c .width-key .ensures) (c .width-tally .ensures) (c .if-key-gt-WIDEST .left) (c .if-tally-gt-WIDEST .left) (c .args .buffer .now) (c .if-buffer-end .taken);
       after = λ rows h. short-after keys tallies key-laws tally-laws rows (c .count-count .result) (c .width-key .result) (c .width-tally .result) (c .count-count .ensures .all rows h) (c .width-key .ensures) (c .width-tally .ensures) (c .if-key-gt-WIDEST .left) (c .if-tally-gt-WIDEST .left) (c .args .buffer .now) (c .if-buffer-end .taken);
-      kept = λ _. refl
+      kept = λ _. refl;
     }
 
 pub returns : need.returns
@@ -27,5 +27,5 @@ returns g c =
     record {
       answer = λ rows h. whole-answer keys tallies key-laws tally-laws rows (c .count-count .result) (c .width-key .result) (c .width-tally .result) (c .count-count .ensures .all rows h) (c .width-key .ensures) (c .width-tally .ensures) (c .if-key-gt-WIDEST .left) (c .if-tally-gt-WIDEST .left) (c .args .buffer .now) (c .if-buffer-end .left);
       after = λ rows h. whole-after keys tallies key-laws tally-laws rows (c .count-count .result) (c .width-key .result) (c .width-tally .result) (c .count-count .ensures .all rows h) (c .width-key .ensures) (c .width-tally .ensures) (c .if-key-gt-WIDEST .left) (c .if-tally-gt-WIDEST .left) (c .args .buffer .now) (c .put-header .last .buffer) (c .put-requests .last .part) (c .put-answers .last .part) (c .if-buffer-end .left) (c .put-header .ensures) (c .put-requests .ensures rows h (c .count-count .ensures .all rows h)) (c .put-answers .ensures rows h (c .count-count .ensures .all rows h));
-      kept = λ e. absurd (true≢false e)
+      kept = λ e. absurd (true≢false e);
     }

@@ -20,7 +20,7 @@ returns-in-Some g c =
       first = fault;
       accepted = λ rows f. let none : fault-of keys tallies (c .args .bytes .now) ≡ None = written-is-read keys tallies key-laws tally-laws (c .args .bytes .now) rows f .0 in let both : Some (c .in-Some .fault) ≡ None = sym fault ∙ none in let z : _≡_ {A = ℕ} 0 1 = cc in omega arith;
       written = written-is-read keys tallies key-laws tally-laws;
-      read = read-is-written keys tallies key-laws tally-laws
+      read = read-is-written keys tallies key-laws tally-laws;
     }
 
 pub returns-in-None : need.returns-in-None
@@ -36,5 +36,5 @@ returns-in-None g c =
       first = none;
       accepted = (refl, (found .0, record { file = found .1; counted = c .field .ensures ∙ ap rows-told (found .1 .same) ∙ told-by keys tallies key-laws tally-laws (found .0) }));
       written = written-is-read keys tallies key-laws tally-laws;
-      read = read-is-written keys tallies key-laws tally-laws
+      read = read-is-written keys tallies key-laws tally-laws;
     }

@@ -22,15 +22,15 @@ returns-then-number-count g c =
 pub returns-in-rest : need.returns-in-rest
 returns-in-rest g c =
     λ rows o.
-      let keys = g .K·StoredKey .form in
-      let tallies = g .T·StoredTally .form in
-      let key-laws : KeyLaws keys = let m = g .K·StoredKey·met in record { long = m .long; reread = m .reread; rewritten = m .rewritten } in
-      let tally-laws : TallyLaws tallies = let m = g .T·StoredTally·met in record { long = m .long; reread = m .reread; rewritten = m .rewritten } in
-      let h = handed keys tallies key-laws tally-laws (c .args .self .now) rows (c .args .number) (c .width .result) (width-of (tallies .size)) (mapped now (c .part .result)) (part-of (36 + c .args .self .now .count * (4 + 2 * c .width .result)) (4 + width-of (tallies .size)) (c .args .number - 1) (now (c .args .self .now .bytes))) o (omega arith) (omega arith) (c .width .ensures) refl (c .part .ensures) refl in
-      let none : mapped now (c .part .result) ≡ None = ap (mapped now) (c .in-rest .is) in
-      let both : None ≡ Some (request-row keys (h .row)) = sym none ∙ h .request in
-      let z : _≡_ {A = ℕ} 0 1 = cc in
-      absurd (omega arith)
+    let keys = g .K·StoredKey .form in
+    let tallies = g .T·StoredTally .form in
+    let key-laws : KeyLaws keys = let m = g .K·StoredKey·met in record { long = m .long; reread = m .reread; rewritten = m .rewritten } in
+    let tally-laws : TallyLaws tallies = let m = g .T·StoredTally·met in record { long = m .long; reread = m .reread; rewritten = m .rewritten } in
+    let h = handed keys tallies key-laws tally-laws (c .args .self .now) rows (c .args .number) (c .width .result) (width-of (tallies .size)) (mapped now (c .part .result)) (part-of (36 + c .args .self .now .count * (4 + 2 * c .width .result)) (4 + width-of (tallies .size)) (c .args .number - 1) (now (c .args .self .now .bytes))) o (omega arith) (omega arith) (c .width .ensures) refl (c .part .ensures) refl in
+    let none : mapped now (c .part .result) ≡ None = ap (mapped now) (c .in-rest .is) in
+    let both : None ≡ Some (request-row keys (h .row)) = sym none ∙ h .request in
+    let z : _≡_ {A = ℕ} 0 1 = cc in
+    absurd (omega arith)
 
 pub part-requires-2 : need.part-requires-2
 part-requires-2 g c κs =
@@ -42,26 +42,26 @@ part-requires-2 g c κs =
 pub returns-in-rest-part : need.returns-in-rest-part
 returns-in-rest-part g c =
     λ rows o.
-      let keys = g .K·StoredKey .form in
-      let tallies = g .T·StoredTally .form in
-      let key-laws : KeyLaws keys = let m = g .K·StoredKey·met in record { long = m .long; reread = m .reread; rewritten = m .rewritten } in
-      let tally-laws : TallyLaws tallies = let m = g .T·StoredTally·met in record { long = m .long; reread = m .reread; rewritten = m .rewritten } in
-      let h = handed keys tallies key-laws tally-laws (c .args .self .now) rows (c .args .number) (c .width .result) (c .width-2 .result) (mapped now (c .part .result)) (mapped now (c .part-2 .result)) o (omega arith) (omega arith) (c .width .ensures) (c .width-2 .ensures) (c .part .ensures) (c .part-2 .ensures) in
-      let none : mapped now (c .part-2 .result) ≡ None = ap (mapped now) (c .in-rest-part .is) in
-      let both : None ≡ Some (answer-row tallies (h .row)) = sym none ∙ h .answer in
-      let z : _≡_ {A = ℕ} 0 1 = cc in
-      absurd (omega arith)
+    let keys = g .K·StoredKey .form in
+    let tallies = g .T·StoredTally .form in
+    let key-laws : KeyLaws keys = let m = g .K·StoredKey·met in record { long = m .long; reread = m .reread; rewritten = m .rewritten } in
+    let tally-laws : TallyLaws tallies = let m = g .T·StoredTally·met in record { long = m .long; reread = m .reread; rewritten = m .rewritten } in
+    let h = handed keys tallies key-laws tally-laws (c .args .self .now) rows (c .args .number) (c .width .result) (c .width-2 .result) (mapped now (c .part .result)) (mapped now (c .part-2 .result)) o (omega arith) (omega arith) (c .width .ensures) (c .width-2 .ensures) (c .part .ensures) (c .part-2 .ensures) in
+    let none : mapped now (c .part-2 .result) ≡ None = ap (mapped now) (c .in-rest-part .is) in
+    let both : None ≡ Some (answer-row tallies (h .row)) = sym none ∙ h .answer in
+    let z : _≡_ {A = ℕ} 0 1 = cc in
+    absurd (omega arith)
 
 pub returns : need.returns
 returns g c =
     λ rows o.
-      let keys = g .K·StoredKey .form in
-      let tallies = g .T·StoredTally .form in
-      let key-laws : KeyLaws keys = let m = g .K·StoredKey·met in record { long = m .long; reread = m .reread; rewritten = m .rewritten } in
-      let tally-laws : TallyLaws tallies = let m = g .T·StoredTally·met in record { long = m .long; reread = m .reread; rewritten = m .rewritten } in
-      let h = handed keys tallies key-laws tally-laws (c .args .self .now) rows (c .args .number) (c .width .result) (c .width-2 .result) (mapped now (c .part .result)) (mapped now (c .part-2 .result)) o (omega arith) (omega arith) (c .width .ensures) (c .width-2 .ensures) (c .part .ensures) (c .part-2 .ensures) in
-      let asked : Some (now (c .in-Some .request)) ≡ Some (request-row keys (h .row)) = sym (ap (mapped now) (c .in-Some .is)) ∙ h .request in
-      let answered : Some (now (c .in-Some-part .answer)) ≡ Some (answer-row tallies (h .row)) = sym (ap (mapped now) (c .in-Some-part .is)) ∙ h .answer in
-      let p : now (c .in-Some .request) ≡ request-row keys (h .row) = cc in
-      let q : now (c .in-Some-part .answer) ≡ answer-row tallies (h .row) = cc in
-      ap₂ (λ x y. Ok (x, y)) p q ∙ sym (ap (λ w. row-given (mapped (row-bytes keys tallies) w)) (h .given))
+    let keys = g .K·StoredKey .form in
+    let tallies = g .T·StoredTally .form in
+    let key-laws : KeyLaws keys = let m = g .K·StoredKey·met in record { long = m .long; reread = m .reread; rewritten = m .rewritten } in
+    let tally-laws : TallyLaws tallies = let m = g .T·StoredTally·met in record { long = m .long; reread = m .reread; rewritten = m .rewritten } in
+    let h = handed keys tallies key-laws tally-laws (c .args .self .now) rows (c .args .number) (c .width .result) (c .width-2 .result) (mapped now (c .part .result)) (mapped now (c .part-2 .result)) o (omega arith) (omega arith) (c .width .ensures) (c .width-2 .ensures) (c .part .ensures) (c .part-2 .ensures) in
+    let asked : Some (now (c .in-Some .request)) ≡ Some (request-row keys (h .row)) = sym (ap (mapped now) (c .in-Some .is)) ∙ h .request in
+    let answered : Some (now (c .in-Some-part .answer)) ≡ Some (answer-row tallies (h .row)) = sym (ap (mapped now) (c .in-Some-part .is)) ∙ h .answer in
+    let p : now (c .in-Some .request) ≡ request-row keys (h .row) = cc in
+    let q : now (c .in-Some-part .answer) ≡ answer-row tallies (h .row) = cc in
+    ap₂ (λ x y. Ok (x, y)) p q ∙ sym (ap (λ w. row-given (mapped (row-bytes keys tallies) w)) (h .given))

@@ -21,5 +21,5 @@ returns g c =
     let long : 2 + size ≤ length row = omega arith in
     record {
       answer = ap (λ n. Ok (2 + n)) same ∙ sym (checked-through (2 + size) row _ wide long);
-      after = area-put row (c .put .last .row) bytes size (getD number 0 0) (getD number 1 0) wide long (c .put .ensures .after) ∙ ap₂ (λ x y. put-after (2 + size) (x ∷ y ∷ bytes) row) (ap (λ l. getD l 0 0) (c .two-bytes-number .ensures)) (ap (λ l. getD l 1 0) (c .two-bytes-number .ensures))
+      after = area-put row (c .put .last .row) bytes size (getD number 0 0) (getD number 1 0) wide long (c .put .ensures .after) ∙ ap₂ (λ x y. put-after (2 + size) (x ∷ y ∷ bytes) row) (ap (λ l. getD l 0 0) (c .two-bytes-number .ensures)) (ap (λ l. getD l 1 0) (c .two-bytes-number .ensures));
     }

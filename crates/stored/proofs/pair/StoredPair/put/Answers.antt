@@ -23,5 +23,5 @@ returns g c =
     let part = c .put-2 .ensures .after in
     record {
       answer = ap₂ (λ m n. Ok (m + n)) front back ∙ sym (checked-through (a .size + b .size) row _ wide long);
-      after = ap (λ n. putMid n (length (c .put .last .row) - n) (c .put .last .row) (c .put-2 .last .row)) front ∙ pair-put row (c .put .last .row) (c .put-2 .last .row) (a .written (c .args .self .first)) (b .written (c .args .self .second)) (a .size) (b .size) (length (c .put .last .row) - a .size) wide long (g .A·StoredTally·met .long (c .args .self .first)) (c .put .ensures .after) (omega arith) (part ∙ ap (λ n. put-after (b .size) (b .written (c .args .self .second)) (take (length (c .put .last .row) - n) (drop n (c .put .last .row)))) front)
+      after = ap (λ n. putMid n (length (c .put .last .row) - n) (c .put .last .row) (c .put-2 .last .row)) front ∙ pair-put row (c .put .last .row) (c .put-2 .last .row) (a .written (c .args .self .first)) (b .written (c .args .self .second)) (a .size) (b .size) (length (c .put .last .row) - a .size) wide long (g .A·StoredTally·met .long (c .args .self .first)) (c .put .ensures .after) (omega arith) (part ∙ ap (λ n. put-after (b .size) (b .written (c .args .self .second)) (take (length (c .put .last .row) - n) (drop n (c .put .last .row)))) front);
     }

@@ -58,29 +58,29 @@ wanted refusal at =
 -- the words for it
 abbrev pub wanted-text : Wanted → List ℕ
 wanted-text Kinds = codes "kinds of at most 16 bytes"
-wanted-text Length = codes "the end of the file as the header tells it, and a header of 36 bytes"
+wanted-text Length = codes "a header of 36 bytes and an end where the header tells it,"
 wanted-text Edition = codes "edition 1"
 wanted-text FewRows = codes "at most 1024 rows"
 wanted-text KeyWidth = codes "the width of a key of the kind named"
 wanted-text TallyWidth = codes "the width of a tally of the kind named"
 wanted-text RequestLength = codes "the length of a request row"
 wanted-text AnswerLength = codes "the length of an answer row"
-wanted-text RequestsStart = codes "36, where the request rows start"
+wanted-text RequestsStart = codes "36, where the request rows start,"
 wanted-text AnswersStart = codes "where the answer rows start"
 wanted-text FileEnd = codes "the length of the file"
 wanted-text Kind = codes "a kind from 1 to 4"
 wanted-text Station = codes "a station from 1 to 8"
 wanted-text TwoZeros = codes "two zero bytes"
 wanted-text Key = codes "a key"
-wanted-text SecondKey = codes "the second key of a count, or zero bytes"
-wanted-text Code = codes "a code that answers the request, or 0"
+wanted-text SecondKey = codes "the second key of a count, or zero bytes,"
+wanted-text Code = codes "a code that answers the request, or 0,"
 wanted-text ThreeZeros = codes "three zero bytes"
-wanted-text NoTally = codes "zero bytes, as there is no tally"
+wanted-text NoTally = codes "zero bytes, as there is no tally,"
 
 -- what stands at an offset: the number in a header field, else the byte
 abbrev pub found : Refusal → List ℕ → ℕ → List ℕ
 found refusal bytes offset =
-    cond (eqb (refusal-number refusal) 12) (codes "the number " ++ decimal (told-at offset bytes)) (cond (ltb offset (length bytes)) (codes "byte " ++ decimal (getD bytes offset 0)) (codes "the end of the file"))
+    cond (eqb (refusal-number refusal) 12) (codes "the number " ++ decimal (told-at offset bytes)) (cond (ltb offset (length bytes)) (codes "a field that begins with byte " ++ decimal (getD bytes offset 0)) (codes "the end of the file"))
 
 -- the sentence under the fault
 abbrev pub sentence : ℕ → ℕ → List ℕ → Fault → List ℕ

@@ -51,7 +51,7 @@ fn found(heap: Global, refusal: Refusal, bytes: &[u8], offset: usize) -> Result<
     }
     if offset < bytes.len() {
         let byte = bytes[offset];
-        return format!(heap, "byte {byte}");
+        return format!(heap, "a field that begins with byte {byte}");
     }
     String::from_str(heap, "the end of the file")
 }

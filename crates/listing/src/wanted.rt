@@ -32,25 +32,24 @@ impl Wanted {
     {
         match self {
             Wanted::Kinds => "kinds of at most 16 bytes",
-            Wanted::Length =>
-                "the end of the file as the header tells it, and a header of 36 bytes",
+            Wanted::Length => "a header of 36 bytes and an end where the header tells it,",
             Wanted::Edition => "edition 1",
             Wanted::FewRows => "at most 1024 rows",
             Wanted::KeyWidth => "the width of a key of the kind named",
             Wanted::TallyWidth => "the width of a tally of the kind named",
             Wanted::RequestLength => "the length of a request row",
             Wanted::AnswerLength => "the length of an answer row",
-            Wanted::RequestsStart => "36, where the request rows start",
+            Wanted::RequestsStart => "36, where the request rows start,",
             Wanted::AnswersStart => "where the answer rows start",
             Wanted::FileEnd => "the length of the file",
             Wanted::Kind => "a kind from 1 to 4",
             Wanted::Station => "a station from 1 to 8",
             Wanted::TwoZeros => "two zero bytes",
             Wanted::Key => "a key",
-            Wanted::SecondKey => "the second key of a count, or zero bytes",
-            Wanted::Code => "a code that answers the request, or 0",
+            Wanted::SecondKey => "the second key of a count, or zero bytes,",
+            Wanted::Code => "a code that answers the request, or 0,",
             Wanted::ThreeZeros => "three zero bytes",
-            Wanted::NoTally => "zero bytes, as there is no tally",
+            Wanted::NoTally => "zero bytes, as there is no tally,",
         }
     }
 

@@ -9,8 +9,8 @@ pub mod Rooms
 pub mod Pencil
 pub mod Vectors
 pub mod Cases
-pub mod Named
 pub mod Sizes
+pub mod Named
 pub mod Ways
 pub mod Shortcuts
 pub mod Teeth

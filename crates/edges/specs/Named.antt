@@ -16,11 +16,14 @@ use Rattle.keys.specs.Sections.{section-le, section-made, section-of}
 use Rattle.tallies.specs.Numbers.{number-of, number-joined, number-opposed}
 use Rattle.requests.specs.declared.answer.Answer.the-variants.{Changed, Unchanged, Absent, Counted}
 use Rattle.requests.specs.Answers.{answer-code}
+use Rattle.stored.specs.RouteBytes.{route-form}
+use Rattle.stored.specs.NumberBytes.{number-form}
 use Rattle.rules.specs.States.{holds}
 use Rattle.rules.specs.Queues.{final-answer}
 use Rattle.rules.specs.Calls.{run}
 use Rattle.rules.specs.Laws.{enough}
 use Rattle.edges.specs.Cases.{Edge-cases, twice, in-and-out, both, Makes-place}
+use Rattle.edges.specs.Sizes.{Archive-sizes}
 use Rattle.edges.specs.Worked.{routes-by-number, route}
 
 -- the section of a name
@@ -106,7 +109,7 @@ Calls-that-suffice =
     × (enough routes-by-number 10 ≡ 175)
     × (enough routes-by-number 1024 ≡ 1575424)
 
--- all of these, with the general cases at routes counted by number
+-- the whole list: all of these, with the general cases at routes counted by number
 pub record Named-cases : Type 0 where
   pub edges : Edge-cases routes-by-number
   pub twelve-twice : Twelve-twice
@@ -119,3 +122,4 @@ pub record Named-cases : Type 0 where
   pub names-end : Names-end
   pub numbers-wrap : Numbers-wrap
   pub calls-that-suffice : Calls-that-suffice
+  pub sizes : Archive-sizes route-form number-form

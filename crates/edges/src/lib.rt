@@ -9,6 +9,8 @@ use keys::Key;
 use keys::Route;
 use keys::RouteKey;
 use stored::StoredKey;
+use stored::StoredNumber;
+use stored::StoredRoute;
 use stored::StoredTally;
 use tallies::Number;
 use tallies::NumberTally;
@@ -19,17 +21,18 @@ pub fn edges_stand<K: Key, T: Tally<K>>()
     ensures { λ _. ⌜ Edge-cases (kinds-of K·Key T·Tally) ⌝ }
 {}
 
-// The cases that name routes and sections stand; the general ones are called on for routes counted by number.
-pub fn named_stand()
-    ensures { λ _. ⌜ Named-cases ⌝ }
-{
-    edges_stand::<Route, Number>();
-}
-
 // The smallest archives have the lengths and the parts that are told of them.
 pub fn sizes_stand<K: StoredKey, T: StoredTally<K>>()
     ensures { λ _. ⌜ Archive-sizes (K·StoredKey .form) (T·StoredTally .form) ⌝ }
 {}
+
+// The whole list stands: the cases that name routes and sections, and the general ones called on for routes counted by number.
+pub fn named_stand()
+    ensures { λ _. ⌜ Named-cases ⌝ }
+{
+    edges_stand::<Route, Number>();
+    sizes_stand::<Route, Number>();
+}
 
 // The worked runs come out line by line as they are written.
 pub fn vectors_stand()

@@ -16,8 +16,8 @@ use Rattle.listing.specs.declared.kinds.KeyKind.{KeyKind}
 use Rattle.listing.specs.declared.kinds.KeyKind.the-variants.{Routes, Sections, AreaRoutes, AreaSections}
 use Rattle.listing.specs.declared.kinds.TallyKind.{TallyKind}
 use Rattle.listing.specs.declared.kinds.TallyKind.the-variants.{Numbers, ByClass, NumbersByClass}
-use Rattle.listing.specs.KeyTexts.{route-text, section-text, area-text}
-use Rattle.listing.specs.TallyTexts.{number-text, classes-text, pair-text}
+use Rattle.printing.specs.KeyTexts.{route-text, section-text, area-text}
+use Rattle.printing.specs.TallyTexts.{number-text, classes-text, pair-text}
 use Rattle.listing.specs.Reports.{Printing}
 
 abbrev pub key-word : KeyKind → List ℕ

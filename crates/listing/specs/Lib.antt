@@ -1,5 +1,3 @@
-pub mod KeyTexts
-pub mod TallyTexts
 pub mod RowTexts
 pub mod FaultTexts
 pub mod Reports

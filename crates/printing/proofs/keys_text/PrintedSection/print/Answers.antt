@@ -2,8 +2,8 @@
 use mathlib.Core.Path.{_≡_, sym, subst, _∙_}
 use Rattle.std.specs.Text.{Utf8}
 use Rattle.std.proofs.shelf.Results.{made-weaker}
-use Rattle.listing.proofs.Texts.{name-utf8}
-use Rattle.listing.proofs.keys_text.PrintedSection.print.Needs as need
+use Rattle.printing.proofs.Texts.{name-utf8}
+use Rattle.printing.proofs.keys_text.PrintedSection.print.Needs as need
 
 pub returns : need.returns
 returns c =

@@ -5,7 +5,7 @@ use Prim.Native.Nat.{ℕ}
 use lib.Chars.{codes}
 use Rattle.std.specs.Written.{decimal}
 use Rattle.std.proofs.shelf.Results.{made-weaker}
-use Rattle.listing.proofs.tallies_text.PrintedClasses.print.Needs as need
+use Rattle.printing.proofs.tallies_text.PrintedClasses.print.Needs as need
 
 same : (m w c s m′ w′ c′ s′ : ℕ) → m ≡ m′ → w ≡ w′ → c ≡ c′ → s ≡ s′ → decimal m ++ (codes " " ++ (decimal w ++ (codes " " ++ (decimal c ++ (codes " " ++ decimal s))))) ≡ decimal m′ ++ (codes " " ++ (decimal w′ ++ (codes " " ++ (decimal c′ ++ (codes " " ++ decimal s′)))))
 same m w c s m′ w′ c′ s′ p q r t = cc

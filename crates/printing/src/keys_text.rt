@@ -5,7 +5,7 @@ ghost use Prim.Native.Nat.{ℕ};
 ghost use Rattle.std.specs.Of.String.{string-bytes};
 ghost use Rattle.std.specs.Vec.{made};
 ghost use Rattle.keys.specs.Classes.{class-letter};
-ghost use Rattle.listing.specs.KeyTexts.{route-text, section-text, area-text};
+ghost use Rattle.printing.specs.KeyTexts.{route-text, section-text, area-text};
 use keys::Area;
 use keys::AreaKey;
 use keys::Class;

@@ -4,7 +4,7 @@ ghost use mathlib.Core.List.{List};
 ghost use Prim.Native.Nat.{ℕ};
 ghost use Rattle.std.specs.Of.String.{string-bytes};
 ghost use Rattle.std.specs.Vec.{made};
-ghost use Rattle.listing.specs.TallyTexts.{number-text, classes-text, pair-text};
+ghost use Rattle.printing.specs.TallyTexts.{number-text, classes-text, pair-text};
 use keys::Class;
 use keys::Key;
 use keys::Route;

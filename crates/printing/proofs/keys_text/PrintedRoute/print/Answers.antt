@@ -6,7 +6,7 @@ use lib.Chars.{codes}
 use Rattle.std.specs.Written.{decimal}
 use Rattle.std.proofs.shelf.Results.{made-weaker}
 use Rattle.keys.specs.Classes.{class-letter}
-use Rattle.listing.proofs.keys_text.PrintedRoute.print.Needs as need
+use Rattle.printing.proofs.keys_text.PrintedRoute.print.Needs as need
 
 same : (e x e′ x′ : ℕ) (l l′ : List ℕ) → e ≡ e′ → x ≡ x′ → l ≡ l′ → decimal e ++ (codes " " ++ (decimal x ++ (codes " " ++ l))) ≡ decimal e′ ++ (codes " " ++ (decimal x′ ++ (codes " " ++ l′)))
 same e x e′ x′ l l′ p q r = cc

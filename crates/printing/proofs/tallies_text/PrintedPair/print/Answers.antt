@@ -3,7 +3,7 @@ use mathlib.Core.Path.{_≡_, ap₂, _∙_}
 use mathlib.Core.List.{List, _++_}
 use lib.Chars.{codes}
 use Rattle.std.proofs.shelf.Results.{made-weaker}
-use Rattle.listing.proofs.tallies_text.PrintedPair.print.Needs as need
+use Rattle.printing.proofs.tallies_text.PrintedPair.print.Needs as need
 
 pub returns : need.returns
 returns g c =

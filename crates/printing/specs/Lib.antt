@@ -1,0 +1,2 @@
+pub mod KeyTexts
+pub mod TallyTexts

@@ -1,9 +1,10 @@
 // Rows as lines, and the listing of an accepted archive.
 ghost use mathlib.Core.Path.{_≡_};
-ghost use mathlib.Core.List.{List, _++_};
+ghost use mathlib.Core.List.{List, [], _++_};
 ghost use Rattle.std.specs.Of.String.{string-bytes};
 ghost use Rattle.std.specs.Vec.{made};
-ghost use Rattle.std.specs.declared.result.Result.the-variants.{Ok};
+ghost use Rattle.std.specs.declared.result.Result.the-variants.{Ok, Err};
+ghost use Rattle.keys.specs.declared.refusal.Refusal.{Refusal};
 ghost use Rattle.requests.specs.declared.row.Row.{Row};
 ghost use Rattle.archive.specs.Opened.{Opened};
 ghost use Rattle.listing.specs.RowTexts.{request-text, answer-text, row-line, last-line, listing-text};
@@ -80,13 +81,14 @@ fn last_line(heap: Global, count: usize) -> Result<String, AllocError>
     format!(heap, "rows {count}\n")
 }
 
-// The line of a row that is given.
+// The line of a row that is given; nothing where it is refused.
 fn given_line<K: PrintedKey, T: PrintedTally<K>>(
     heap: Global,
     number: usize,
     row: Result<Row<K, T>, Refusal>,
 ) -> Result<String, AllocError>
-    ensures { λ r. ⌜ ((w : Row K T) → row ≡ Ok w → made r (λ s. string-bytes s ≡ row-line (K·PrintedKey .text) (T·PrintedTally .text) number w)) ⌝ }
+    ensures given { λ r. ⌜ ((w : Row K T) → row ≡ Ok w → made r (λ s. string-bytes s ≡ row-line (K·PrintedKey .text) (T·PrintedTally .text) number w)) ⌝ }
+    ensures refused { λ r. ⌜ ((e : Refusal) → row ≡ Err e → made r (λ s. string-bytes s ≡ [])) ⌝ }
 {
     match row {
         Ok(row) => row_line(heap, number, &row),

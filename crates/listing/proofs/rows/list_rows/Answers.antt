@@ -8,7 +8,7 @@ use Rattle.listing.proofs.rows.list_rows.Needs as need
 pub loop-i-again : need.loop-i-again
 loop-i-again g c =
     λ rows o.
-    line-more (g .K·PrintedKey .text) (g .T·PrintedTally .text) rows (c .loop-i .i) (c .read .result) (string-bytes (c .loop-i .written)) (string-bytes (c .push-str .last .self)) (c .as-str .result .now) (omega (arith, o .counted, c .count-count .ensures)) (c .read .ensures rows o) (λ w e. c .as-str .ensures .value ∙ c .in-Continue-line .ensures tt w e) (c .in-Continue-push-str .ensures tt .bytes) (c .loop-i .inv rows o)
+    line-more (g .K·PrintedKey .text) (g .T·PrintedTally .text) rows (c .loop-i .i) (c .read .result) (string-bytes (c .loop-i .written)) (string-bytes (c .push-str .last .self)) (c .as-str .result .now) (omega (arith, o .counted, c .count-count .ensures)) (c .read .ensures rows o) (λ w e. c .as-str .ensures .value ∙ c .in-Continue-line .ensures tt .given w e) (c .in-Continue-push-str .ensures tt .bytes) (c .loop-i .inv rows o)
 
 pub returns : need.returns
 returns g c =

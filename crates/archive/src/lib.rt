@@ -1,4 +1,6 @@
 // The archive: a file of requests and their answers, checked, read and handed out row by row.
+#![tactic(auto)]
+
 mod answer_rows;
 mod checking;
 mod decoding;

@@ -1,4 +1,6 @@
 // Opens an archive of routes and numbers again and again, and prints how long one opening takes; once prints its rows.
+#![tactic(auto)]
+
 use anyhow::anyhow;
 use archive::Archive;
 use keys::Route;

@@ -1,4 +1,6 @@
 // Tries files of several kinds, whole and damaged.
+#![tactic(auto)]
+
 mod cases;
 mod sample;
 

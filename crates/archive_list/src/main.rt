@@ -1,4 +1,6 @@
 // Lists an archive for people: archive_list KEYS TALLIES FILE.
+#![tactic(auto)]
+
 use anyhow::anyhow;
 use listing::{KeyKind, TallyKind, list};
 use std::{env, fs};

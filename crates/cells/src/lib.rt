@@ -1,4 +1,6 @@
 // The cells that a register works in: what each holds, and the state of the rules that a row of them shows.
+#![tactic(auto)]
+
 mod cell;
 mod desk;
 mod outcome;

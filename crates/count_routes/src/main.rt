@@ -1,4 +1,6 @@
 // Counts the routes on standard input, one to a line, and prints the report on them.
+#![tactic(auto)]
+
 use route_count::report;
 use std::io;
 use std::io::Read;

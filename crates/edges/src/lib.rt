@@ -1,4 +1,6 @@
 // The cases that settle the rules at their edges, and the worked runs: each a statement about the rules, promised here.
+#![tactic(auto)]
+
 ghost use Rattle.rules.specs.Kinds.{kinds_of};
 ghost use Rattle.edges.specs.Cases.{EdgeCases};
 ghost use Rattle.edges.specs.Named.{NamedCases};

@@ -1,4 +1,6 @@
 // Kinds of key: the one question that a kind answers, its laws, three kinds, and the refusals.
+#![tactic(auto)]
+
 mod area;
 mod class;
 mod key;

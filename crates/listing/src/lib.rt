@@ -1,4 +1,6 @@
 // Archives listed for people: rows and faults as text.
+#![tactic(auto)]
+
 mod faults;
 mod kinds;
 mod reports;

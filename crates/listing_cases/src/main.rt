@@ -1,4 +1,6 @@
 // Lists files of each pair of kinds, and damaged ones.
+#![tactic(auto)]
+
 use anyhow::anyhow;
 use listing::{KeyKind, TallyKind, list};
 use std::fs;

@@ -1,4 +1,6 @@
 // Plain questions about bytes: where a byte first stands, whether all are one byte, and pieces between separators.
+#![tactic(auto)]
+
 mod pieces;
 mod runs;
 

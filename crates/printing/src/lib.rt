@@ -1,4 +1,6 @@
 // Keys and tallies as people read them.
+#![tactic(auto)]
+
 mod keys_text;
 mod tallies_text;
 

@@ -1,4 +1,6 @@
 // What stations ask of a register and what it answers: requests, answers, stations, and the rows that keep them.
+#![tactic(auto)]
+
 mod answer;
 mod kind;
 mod request;

@@ -1,4 +1,6 @@
 // The rules of the register: what its calls answer and leave, in specs/; the words that code and rules share, here.
+#![tactic(auto)]
+
 mod carried;
 mod laws;
 mod mode;

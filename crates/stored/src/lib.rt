@@ -1,4 +1,6 @@
 // Kinds of key and of tally that rows of bytes hold: their widths, and putting and getting them.
+#![tactic(auto)]
+
 mod area;
 mod classes;
 mod key;

@@ -1,4 +1,6 @@
 // Kinds of tally: a zero, a joining, an opposite and the weights of keys, with their laws; three kinds.
+#![tactic(auto)]
+
 mod classes;
 mod number;
 mod pair;

@@ -1,4 +1,6 @@
 // Reading the words of a line: numbers, class letters, and a route as three words.
+#![tactic(auto)]
+
 mod letters;
 mod numbers;
 mod routes;

@@ -1,4 +1,6 @@
 // Writing an archive from any source of rows.
+#![tactic(auto)]
+
 mod again;
 mod header;
 mod layers;

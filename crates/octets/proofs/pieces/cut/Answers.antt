@@ -8,4 +8,4 @@ returns-then-size-text c = pieces-last c.args.separator c.args.text.now (omega a
 
 pub returns : goal.returns
 returns c =
-    pieces-parted c.args.separator c.args.text.now c.length-before-size.result c.length-before-size.ensures c.if-size-text.false
+    pieces-parted c.args.separator c.args.text.now c.length_before-size.result c.length_before-size.ensures c.if-size-text.false

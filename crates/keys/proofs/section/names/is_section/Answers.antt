@@ -5,4 +5,4 @@ use Rattle.keys.proofs.section.names.is_section.Goals as goal
 
 pub returns : goal.returns
 returns c =
-    c.are-all.ensures ∙ section_by_rest c.args.bytes.now c.before-name.result.now c.before-name.ensures (omega arith) (sym c.if-not-is-name.ensures)
+    c.are_all.ensures ∙ section_by_rest c.args.bytes.now c.before-name.result.now c.before-name.ensures (omega arith) (sym c.if-not-is_name.ensures)

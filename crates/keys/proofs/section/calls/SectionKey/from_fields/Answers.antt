@@ -3,8 +3,8 @@ use Rattle.std.proofs.Common.{sym, refl}
 use Rattle.keys.specs.SectionsLemmas.{section_kept, section_lost}
 use Rattle.keys.proofs.section.calls.SectionKey.from_fields.Goals as goal
 
-pub returns-then-is-section : goal.returns-then-is-section
-returns-then-is-section c = section_kept _ c.args.fields refl
+pub returns-then-is_section : goal.returns-then-is_section
+returns-then-is_section c = section_kept _ c.args.fields refl
 
 pub returns : goal.returns
-returns c = section_lost _ c.args.fields (sym c.if-is-section.ensures) refl
+returns c = section_lost _ c.args.fields (sym c.if-is_section.ensures) refl

@@ -6,8 +6,8 @@ ghost use Rattle.words.specs.Meaning.{Reads};
 
 use super::letters::class_letter;
 use super::numbers::number;
-use octets::Pieces;
 use keys::{Class, Refusal, Route};
+use octets::Pieces;
 
 // The three words of a route, read, and not yet checked for range.
 #[derive(Clone, Copy)]

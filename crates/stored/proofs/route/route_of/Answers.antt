@@ -6,7 +6,7 @@ use Rattle.stored.proofs.route.route_of.Goals as goal
 
 pub returns-in-Ok : goal.returns-in-Ok
 returns-in-Ok c =
-    let numbers = ap₂ (λ m n. route_of m n c.in-Ok.class) c.from-two-entry.ensures c.from-two-exit.ensures in
+    let numbers = ap₂ (λ m n. route_of m n c.in-Ok.class) c.from_two-entry.ensures c.from_two-exit.ensures in
     c.new.ensures ∙ numbers ∙ route_read-class c.args.a c.args.b c.args.c c.args.d c.args.e c.in-Ok.class (omega arith) (omega arith) c.in-Ok.ensures
 
 pub returns-in-Err : goal.returns-in-Err

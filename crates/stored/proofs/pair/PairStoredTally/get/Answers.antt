@@ -16,7 +16,7 @@ returns g c =
     let long : a.size + b.size ≤ length row = omega (arith, c.width.ensures) in
     let rest : length (drop a.size row) ≡ length row - a.size = length-drop a.size row in
     let whole : take (length row - c.width-front.result) (drop c.width-front.result row) ≡ drop a.size row = take_rest row c.width-front.result ∙ ap (λ n. drop n row) front in
-    let first : Ok c.in-ok-first.first ≡ Ok (a.read (take a.size row)) = sym c.in-ok-first.was ∙ c.get.ensures ∙ checked_through a.size row _ (omega arith) (omega arith) in
-    let second : Ok c.in-ok-second.second ≡ Ok (b.read (take b.size (drop a.size row))) = sym c.in-ok-second.was ∙ c.get-2.ensures ∙ ap (tally_got b) whole ∙ checked_through b.size (drop a.size row) _ (omega arith) (omega arith) in
+    let first : Ok c.in_ok-first.first ≡ Ok (a.read (take a.size row)) = sym c.in_ok-first.was ∙ c.get.ensures ∙ checked_through a.size row _ (omega arith) (omega arith) in
+    let second : Ok c.in_ok-second.second ≡ Ok (b.read (take b.size (drop a.size row))) = sym c.in_ok-second.was ∙ c.get-2.ensures ∙ ap (tally_got b) whole ∙ checked_through b.size (drop a.size row) _ (omega arith) (omega arith) in
     let both = pair_got a b row wide long in
     cc

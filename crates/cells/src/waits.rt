@@ -56,7 +56,7 @@ impl Waits {
                     } else {
                         Waits::Upto(upto)
                     }
-                } else if upto == place {
+                } else if place == upto {
                     Waits::From(from)
                 } else {
                     self

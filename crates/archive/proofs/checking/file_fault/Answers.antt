@@ -5,66 +5,66 @@ use Rattle.archive.proofs.checking.file_fault.Goals as goal
 
 pub returns-in-Some : goal.returns-in-Some
 returns-in-Some g c =
-    header_first g.K.StoredKey.form g.T.StoredTally.form c.args.bytes.now c.width-key.result c.width-tally.result c.header-fault.result c.width-key.ensures c.width-tally.ensures c.header-fault.ensures c.in-Some.fault c.in-Some.is
+    header_first g.K.StoredKey.form g.T.StoredTally.form c.args.bytes.now c.width-key.result c.width-tally.result c.header_fault.result c.width-key.ensures c.width-tally.ensures c.header_fault.ensures c.in-Some.fault c.in-Some.is
 
-pub overflow-mul-answers-start-2 : goal.overflow-mul-answers-start-2
-overflow-mul-answers-start-2 g c =
+pub overflow_mul-answers_start-2 : goal.overflow_mul-answers_start-2
+overflow_mul-answers_start-2 g c =
     let bytes = c.args.bytes.now in
-    let known = reading_of c.width-key.result c.width-tally.result c.field-count.result bytes c.header-fault.result (λ i. omega (arith, c.type-inv.bytes i)) c.header-fault.ensures c.in-default.is c.field-count.ensures in
+    let known = reading_of c.width-key.result c.width-tally.result c.field-count.result bytes c.header_fault.result (λ i. omega (arith, c.type_inv.bytes i)) c.header_fault.ensures c.in_default.is c.field-count.ensures in
     let room = known.asked_room in
     search rules
 
-pub overflow-add-answers-start-2 : goal.overflow-add-answers-start-2
-overflow-add-answers-start-2 g c =
+pub overflow_add-answers_start-2 : goal.overflow_add-answers_start-2
+overflow_add-answers_start-2 g c =
     let bytes = c.args.bytes.now in
-    let known = reading_of c.width-key.result c.width-tally.result c.field-count.result bytes c.header-fault.result (λ i. omega (arith, c.type-inv.bytes i)) c.header-fault.ensures c.in-default.is c.field-count.ensures in
+    let known = reading_of c.width-key.result c.width-tally.result c.field-count.result bytes c.header_fault.result (λ i. omega (arith, c.type_inv.bytes i)) c.header_fault.ensures c.in_default.is c.field-count.ensures in
     let room = known.asked_room in
     search rules
 
-pub slice-bounds-requests-end : goal.slice-bounds-requests-end
-slice-bounds-requests-end g c =
+pub slice_bounds-requests-end : goal.slice_bounds-requests-end
+slice_bounds-requests-end g c =
     let bytes = c.args.bytes.now in
-    let known = reading_of c.width-key.result c.width-tally.result c.field-count.result bytes c.header-fault.result (λ i. omega (arith, c.type-inv.bytes i)) c.header-fault.ensures c.in-default.is c.field-count.ensures in
+    let known = reading_of c.width-key.result c.width-tally.result c.field-count.result bytes c.header_fault.result (λ i. omega (arith, c.type_inv.bytes i)) c.header_fault.ensures c.in_default.is c.field-count.ensures in
     let long = known.long in
     let within : 36 + c.field-count.result * (4 + 2 * c.width-key.result) ≤ length bytes = omega arith in
     within
 
-pub requests-fault-requires : goal.requests-fault-requires
-requests-fault-requires g c =
+pub requests_fault-requires : goal.requests_fault-requires
+requests_fault-requires g c =
     let bytes = c.args.bytes.now in
-    let known = reading_of c.width-key.result c.width-tally.result c.field-count.result bytes c.header-fault.result (λ i. omega (arith, c.type-inv.bytes i)) c.header-fault.ensures c.in-default.is c.field-count.ensures in
+    let known = reading_of c.width-key.result c.width-tally.result c.field-count.result bytes c.header_fault.result (λ i. omega (arith, c.type_inv.bytes i)) c.header_fault.ensures c.in_default.is c.field-count.ensures in
     let asked = requests_cut_long c.width-key.result c.width-tally.result c.field-count.result bytes known in
-    let same = key-same g.K.StoredKey.form g.T.StoredTally.form bytes c.width-key.result c.width-tally.result c.header-fault.result c.width-key.ensures c.width-tally.ensures c.header-fault.ensures c.in-default.is c.field-count.result known in
+    let same = key-same g.K.StoredKey.form g.T.StoredTally.form bytes c.width-key.result c.width-tally.result c.header_fault.result c.width-key.ensures c.width-tally.ensures c.header_fault.ensures c.in_default.is c.field-count.result known in
     let fits = known.key_fits in
     let room = known.asked_room in
     (omega (arith, same), (same, (asked, (omega arith, known.few))))
 
-pub returns-in-Some-requests-fault : goal.returns-in-Some-requests-fault
-returns-in-Some-requests-fault g c =
+pub returns-in-Some-requests_fault : goal.returns-in-Some-requests_fault
+returns-in-Some-requests_fault g c =
     let bytes = c.args.bytes.now in
-    let known = reading_of c.width-key.result c.width-tally.result c.field-count.result bytes c.header-fault.result (λ i. omega (arith, c.type-inv.bytes i)) c.header-fault.ensures c.in-default.is c.field-count.ensures in
-    requests_first g.K.StoredKey.form g.T.StoredTally.form bytes c.width-key.result c.width-tally.result c.header-fault.result c.width-key.ensures c.width-tally.ensures c.header-fault.ensures c.in-default.is c.field-count.result known c.requests-fault.result c.requests-fault.ensures c.in-Some-requests-fault.fault c.in-Some-requests-fault.is
+    let known = reading_of c.width-key.result c.width-tally.result c.field-count.result bytes c.header_fault.result (λ i. omega (arith, c.type_inv.bytes i)) c.header_fault.ensures c.in_default.is c.field-count.ensures in
+    requests_first g.K.StoredKey.form g.T.StoredTally.form bytes c.width-key.result c.width-tally.result c.header_fault.result c.width-key.ensures c.width-tally.ensures c.header_fault.ensures c.in_default.is c.field-count.result known c.requests_fault.result c.requests_fault.ensures c.in-Some-requests_fault.fault c.in-Some-requests_fault.is
 
-pub slice-bounds-answers-fault-count : goal.slice-bounds-answers-fault-count
-slice-bounds-answers-fault-count g c =
+pub slice_bounds-answers_fault-count : goal.slice_bounds-answers_fault-count
+slice_bounds-answers_fault-count g c =
     let bytes = c.args.bytes.now in
-    let known = reading_of c.width-key.result c.width-tally.result c.field-count.result bytes c.header-fault.result (λ i. omega (arith, c.type-inv.bytes i)) c.header-fault.ensures c.in-default.is c.field-count.ensures in
+    let known = reading_of c.width-key.result c.width-tally.result c.field-count.result bytes c.header_fault.result (λ i. omega (arith, c.type_inv.bytes i)) c.header_fault.ensures c.in_default.is c.field-count.ensures in
     let long = known.long in
     let within : 36 + c.field-count.result * (4 + 2 * c.width-key.result) ≤ length bytes = omega arith in
     within
 
-pub slice-bounds-answers-fault-start : goal.slice-bounds-answers-fault-start
-slice-bounds-answers-fault-start g c =
+pub slice_bounds-answers_fault-start : goal.slice_bounds-answers_fault-start
+slice_bounds-answers_fault-start g c =
     let bytes = c.args.bytes.now in
-    let known = reading_of c.width-key.result c.width-tally.result c.field-count.result bytes c.header-fault.result (λ i. omega (arith, c.type-inv.bytes i)) c.header-fault.ensures c.in-default.is c.field-count.ensures in
+    let known = reading_of c.width-key.result c.width-tally.result c.field-count.result bytes c.header_fault.result (λ i. omega (arith, c.type_inv.bytes i)) c.header_fault.ensures c.in_default.is c.field-count.ensures in
     let long = known.long in
     let within : 36 + c.field-count.result * (4 + 2 * c.width-key.result) ≤ length bytes = omega arith in
     within
 
-pub answers-fault-requires : goal.answers-fault-requires
-answers-fault-requires g c =
+pub answers_fault-requires : goal.answers_fault-requires
+answers_fault-requires g c =
     let bytes = c.args.bytes.now in
-    let known = reading_of c.width-key.result c.width-tally.result c.field-count.result bytes c.header-fault.result (λ i. omega (arith, c.type-inv.bytes i)) c.header-fault.ensures c.in-default.is c.field-count.ensures in
+    let known = reading_of c.width-key.result c.width-tally.result c.field-count.result bytes c.header_fault.result (λ i. omega (arith, c.type_inv.bytes i)) c.header_fault.ensures c.in_default.is c.field-count.ensures in
     let asked = requests_cut_long c.width-key.result c.width-tally.result c.field-count.result bytes known in
     let answered = answers_cut_long c.width-key.result c.width-tally.result c.field-count.result bytes known in
     let room = known.asked_room in
@@ -78,5 +78,5 @@ answers-fault-requires g c =
 pub returns : goal.returns
 returns g c =
     let bytes = c.args.bytes.now in
-    let known = reading_of c.width-key.result c.width-tally.result c.field-count.result bytes c.header-fault.result (λ i. omega (arith, c.type-inv.bytes i)) c.header-fault.ensures c.in-default.is c.field-count.ensures in
-    answers_first g.K.StoredKey.form g.T.StoredTally.form bytes c.width-key.result c.width-tally.result c.header-fault.result c.width-key.ensures c.width-tally.ensures c.header-fault.ensures c.in-default.is c.field-count.result known c.requests-fault.result c.requests-fault.ensures c.answers-fault.result c.in-default-requests-fault.is c.answers-fault.ensures
+    let known = reading_of c.width-key.result c.width-tally.result c.field-count.result bytes c.header_fault.result (λ i. omega (arith, c.type_inv.bytes i)) c.header_fault.ensures c.in_default.is c.field-count.ensures in
+    answers_first g.K.StoredKey.form g.T.StoredTally.form bytes c.width-key.result c.width-tally.result c.header_fault.result c.width-key.ensures c.width-tally.ensures c.header_fault.ensures c.in_default.is c.field-count.result known c.requests_fault.result c.requests_fault.ensures c.answers_fault.result c.in_default-requests_fault.is c.answers_fault.ensures

@@ -22,12 +22,12 @@ returns-then-answer-tally g c =
     let long : length c.args.answer.now ≡ answer_length g.T.StoredTally.form.size = ap length q ∙ answer_row_long g.T.StoredTally.form laws w in
     absurd (c.if-answer-tally.true (omega arith))
 
-pub returns-in-default-request-in : goal.returns-in-default-request-in
-returns-in-default-request-in g c =
+pub returns-in_default-request_in : goal.returns-in_default-request_in
+returns-in_default-request_in g c =
     λ w k t p q.
     let laws : KeyLaws g.K.StoredKey.form = let m = g.met.K.StoredKey in record { long = m.long; reread = m.reread; rewritten = m.rewritten } in
     let known = request_known g.K.StoredKey.form laws w c.args.request.now p in
-    let both : None ≡ Some w.request = sym c.in-default-request-in.is ∙ c.request_in.ensures ∙ known in
+    let both : None ≡ Some w.request = sym c.in_default-request_in.is ∙ c.request_in.ensures ∙ known in
     let z : ◌≡◌ {A = ℕ} 0 1 = cc in
     absurd (omega arith)
 

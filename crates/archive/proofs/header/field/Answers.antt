@@ -5,4 +5,4 @@ use Rattle.archive.proofs.Fields.{four-at}
 use Rattle.archive.proofs.header.field.Goals as goal
 
 pub returns : goal.returns
-returns c = c.from-four.ensures ∙ sym (ap value (four-at c.args.bytes.now c.args.offset (omega arith)))
+returns c = c.from_four.ensures ∙ sym (ap value (four-at c.args.bytes.now c.args.offset (omega arith)))

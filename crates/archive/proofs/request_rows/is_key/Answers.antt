@@ -5,4 +5,4 @@ use Rattle.archive.proofs.request_rows.is_key.Goals as goal
 
 pub returns : goal.returns
 returns g c =
-    c.is-ok.ensures.value ∙ ap is_ok c.get.ensures ∙ key-read g.K.StoredKey.form c.args.bytes.now (omega arith) (omega arith)
+    c.is_ok.ensures.value ∙ ap is_ok c.get.ensures ∙ key-read g.K.StoredKey.form c.args.bytes.now (omega arith) (omega arith)

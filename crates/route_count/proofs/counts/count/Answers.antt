@@ -14,10 +14,10 @@ loop-line-init c =
 pub loop-line-preserved : goal.loop-line-preserved
 loop-line-preserved c =
     let rest = c.in-Some.rest.now in
-    let total = c.counted-total.ensures ∙ ap (λ r. with_reading r c.loop-line.total) c.read-route.ensures.answer in
+    let total = c.counted-total.ensures ∙ ap (λ r. with_reading r c.loop-line.total) c.read_route.ensures.answer in
     ap (λ t. both_joined t (routes_weight (readings rest))) total ∙ count_more c.loop-line.left.now c.in-Some.line.now rest c.loop-line.total c.in-Some.ensures.answer ∙ c.loop-line.invariant
 
 pub returns : goal.returns
 returns c =
-    let total : c.loop-line.total ≡ routes_weight (readings c.args.text.now) = sym (count_all c.loop-line.left.now c.loop-line.total c.in-default.ensures.answer) ∙ c.loop-line.invariant in
+    let total : c.loop-line.total ≡ routes_weight (readings c.args.text.now) = sym (count_all c.loop-line.left.now c.loop-line.total c.in_default.ensures.answer) ∙ c.loop-line.invariant in
     record { answer = total; meaning = counts (readings c.args.text.now) c.loop-line.total total }

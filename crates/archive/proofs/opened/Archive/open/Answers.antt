@@ -12,7 +12,7 @@ returns-in-Some g c =
     let tallies = g.T.StoredTally.form in
     let key_laws : KeyLaws keys = let m = g.met.K.StoredKey in record { long = m.long; reread = m.reread; rewritten = m.rewritten } in
     let tally-laws : TallyLaws tallies = let m = g.met.T.StoredTally in record { long = m.long; reread = m.reread; rewritten = m.rewritten } in
-    let fault : fault_of keys tallies c.args.bytes.now ≡ Some c.in-Some.fault = sym c.file-fault.ensures ∙ c.in-Some.is in
+    let fault : fault_of keys tallies c.args.bytes.now ≡ Some c.in-Some.fault = sym c.file_fault.ensures ∙ c.in-Some.is in
     record {
       first = fault;
       accepted = λ rows f. let none : fault_of keys tallies c.args.bytes.now ≡ None = (written_is_read keys tallies key_laws tally-laws c.args.bytes.now rows f).0 in let both : Some c.in-Some.fault ≡ None = sym fault ∙ none in let z : ◌≡◌ {A = ℕ} 0 1 = cc in omega arith;
@@ -27,8 +27,8 @@ returns-in-None g c =
     let tallies = g.T.StoredTally.form in
     let key_laws : KeyLaws keys = let m = g.met.K.StoredKey in record { long = m.long; reread = m.reread; rewritten = m.rewritten } in
     let tally-laws : TallyLaws tallies = let m = g.met.T.StoredTally in record { long = m.long; reread = m.reread; rewritten = m.rewritten } in
-    let none : fault_of keys tallies bytes ≡ None = sym c.file-fault.ensures ∙ c.in-None.is in
-    let found = read_is_written keys tallies key_laws tally-laws bytes (all_typed bytes (λ i. omega (arith, c.type-inv.bytes i))) none in
+    let none : fault_of keys tallies bytes ≡ None = sym c.file_fault.ensures ∙ c.in-None.is in
+    let found = read_is_written keys tallies key_laws tally-laws bytes (all_typed bytes (λ i. omega (arith, c.type_inv.bytes i))) none in
     record {
       first = none;
       accepted = (refl, (found.0, record { file = found.1; counted = c.field.ensures ∙ ap rows_told found.1.same ∙ told_by keys tallies key_laws tally-laws found.0 }));

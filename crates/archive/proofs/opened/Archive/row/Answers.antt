@@ -12,15 +12,15 @@ pub returns-then-number-count : goal.returns-then-number-count
 returns-then-number-count g c =
     λ rows o. sym (ap (λ w. row_given (option_map (row_bytes g.K.StoredKey.form g.T.StoredTally.form) w)) (numbered-past rows c.args.number (omega (arith, o.counted))))
 
-pub returns-in-default : goal.returns-in-default
-returns-in-default g c =
+pub returns-in_default : goal.returns-in_default
+returns-in_default g c =
     λ rows o.
     let keys = g.K.StoredKey.form in
     let tallies = g.T.StoredTally.form in
     let key_laws : KeyLaws keys = let m = g.met.K.StoredKey in record { long = m.long; reread = m.reread; rewritten = m.rewritten } in
     let tally-laws : TallyLaws tallies = let m = g.met.T.StoredTally in record { long = m.long; reread = m.reread; rewritten = m.rewritten } in
     let h = handed keys tallies key_laws tally-laws c.args.self.now rows c.args.number c.width.result (width_of tallies.size) (option_map (λ x. x.now) c.part.result) (part_of (36 + c.args.self.now.count * (4 + 2 * c.width.result)) (4 + width_of tallies.size) (c.args.number - 1) c.args.self.now.bytes.now) o (omega arith) (omega arith) c.width.ensures refl c.part.ensures refl in
-    let none : option_map (λ x. x.now) c.part.result ≡ None = ap (option_map (λ x. x.now)) c.in-default.is in
+    let none : option_map (λ x. x.now) c.part.result ≡ None = ap (option_map (λ x. x.now)) c.in_default.is in
     let both : None ≡ Some (request_row keys h.row) = sym none ∙ h.request in
     let z : ◌≡◌ {A = ℕ} 0 1 = cc in
     absurd (omega arith)
@@ -32,15 +32,15 @@ part-requires-2 g c =
     let room : c.args.self.now.count * (4 + 2 * c.width.result) ≤ 1024 * 38 = mul-le-mul {n₁ = c.args.self.now.count} {m₁ = 4 + 2 * c.width.result} {n₂ = 1024} {m₂ = 38} (omega arith) (omega arith) in
     (omega arith, (omega arith, omega arith))
 
-pub returns-in-default-part : goal.returns-in-default-part
-returns-in-default-part g c =
+pub returns-in_default-part : goal.returns-in_default-part
+returns-in_default-part g c =
     λ rows o.
     let keys = g.K.StoredKey.form in
     let tallies = g.T.StoredTally.form in
     let key_laws : KeyLaws keys = let m = g.met.K.StoredKey in record { long = m.long; reread = m.reread; rewritten = m.rewritten } in
     let tally-laws : TallyLaws tallies = let m = g.met.T.StoredTally in record { long = m.long; reread = m.reread; rewritten = m.rewritten } in
     let h = handed keys tallies key_laws tally-laws c.args.self.now rows c.args.number c.width.result c.width-2.result (option_map (λ x. x.now) c.part.result) (option_map (λ x. x.now) c.part-2.result) o (omega arith) (omega arith) c.width.ensures c.width-2.ensures c.part.ensures c.part-2.ensures in
-    let none : option_map (λ x. x.now) c.part-2.result ≡ None = ap (option_map (λ x. x.now)) c.in-default-part.is in
+    let none : option_map (λ x. x.now) c.part-2.result ≡ None = ap (option_map (λ x. x.now)) c.in_default-part.is in
     let both : None ≡ Some (answer_row tallies h.row) = sym none ∙ h.answer in
     let z : ◌≡◌ {A = ℕ} 0 1 = cc in
     absurd (omega arith)

@@ -9,4 +9,4 @@ same e x e' x' l l' p q r = cc
 
 pub returns : goal.returns
 returns c =
-    IfOk-weaker c.format.result _ _ (λ s h. h ∙ same _ _ _ _ _ _ c.entry-entry.ensures c.exit-exit.ensures (c.class-word-class.ensures ∙ ap (λ k. class_letter k ∷ []) c.class.ensures)) c.format.ensures.ok
+    IfOk-weaker c.format.result _ _ (λ s h. h ∙ same _ _ _ _ _ _ c.entry-entry.ensures c.exit-exit.ensures (c.class_word-class.ensures ∙ ap (λ k. class_letter k ∷ []) c.class.ensures)) c.format.ensures.ok

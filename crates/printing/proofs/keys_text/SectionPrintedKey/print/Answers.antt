@@ -6,4 +6,4 @@ use Rattle.printing.proofs.keys_text.SectionPrintedKey.print.Goals as goal
 
 pub returns : goal.returns
 returns c =
-    IfOk-weaker c.from-utf8-lossy.result _ _ (λ s h. h (subst IsUtf8 (sym c.name.ensures) (name_utf8 c.args.self)) ∙ c.name.ensures) c.from-utf8-lossy.ensures.ok
+    IfOk-weaker c.from_utf8_lossy.result _ _ (λ s h. h (subst IsUtf8 (sym c.name.ensures) (name_utf8 c.args.self)) ∙ c.name.ensures) c.from_utf8_lossy.ensures.ok

@@ -5,4 +5,4 @@ use Rattle.printing.proofs.tallies_text.PairPrintedTally.print.Goals as goal
 
 pub returns : goal.returns
 returns g c =
-    IfOk-weaker c.format.result _ _ (λ s h. h ∙ ap₂ (λ x y. x ++ (codes " " ++ y)) c.in-ok-first.ensures c.in-ok-second.ensures) c.format.ensures.ok
+    IfOk-weaker c.format.result _ _ (λ s h. h ∙ ap₂ (λ x y. x ++ (codes " " ++ y)) c.in_ok-first.ensures c.in_ok-second.ensures) c.format.ensures.ok

@@ -90,9 +90,9 @@ fn area_order(rt: HostRuntime) -> Result<(), Fail> {
 #[test]
 fn number_wraps(rt: HostRuntime) -> Result<(), Fail> {
     let most = Number::new(u32::MAX);
-    let one: Number = NumberTally::<Route>::weight(numbered(Route::new(1, 2, Class::M))?);
+    let one: Number = <Number as Tally<Route>>::weight(numbered(Route::new(1, 2, Class::M))?);
     assert_eq!(rt; one.value(), 1);
-    assert_eq!(rt; NumberTally::<Route>::join(most, one).value(), 0);
+    assert_eq!(rt; <Number as Tally<Route>>::join(most, one).value(), 0);
     Ok(())
 }
 

@@ -5,4 +5,4 @@ use Rattle.listing.proofs.rows.keyed.Goals as goal
 
 pub returns : goal.returns
 returns g c =
-    IfOk-weaker c.format.result _ _ (λ s h. h ∙ ap (λ l. c.args.word.now ++ l) c.in-ok-text.ensures) c.format.ensures.ok
+    IfOk-weaker c.format.result _ _ (λ s h. h ∙ ap (λ l. c.args.word.now ++ l) c.in_ok-text.ensures) c.format.ensures.ok

@@ -5,5 +5,5 @@ use Rattle.writing.proofs.header.put_header.Goals as goal
 
 pub loop-i-preserved : goal.loop-i-preserved
 loop-i-preserved c =
-    let nine : length c.header-fields-fields.result ≡ 9 = ap length c.header-fields-fields.ensures in
-    field_put c.header-fields-fields.result c.args.buffer.now c.loop-i.buffer c.copy-from-slice.new.self c.loop-i.i (omega arith) (omega arith) c.loop-i.invariant (c.copy-from-slice.ensures.after ∙ c.four-bytes-bytes.ensures)
+    let nine : length c.header_fields-fields.result ≡ 9 = ap length c.header_fields-fields.ensures in
+    field_put c.header_fields-fields.result c.args.buffer.now c.loop-i.buffer c.copy_from_slice.new.self c.loop-i.i (omega arith) (omega arith) c.loop-i.invariant (c.copy_from_slice.ensures.after ∙ c.four_bytes-bytes.ensures)

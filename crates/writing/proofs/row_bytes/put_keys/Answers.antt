@@ -5,13 +5,13 @@ use Rattle.archive.specs.Format.{key_fields}
 use Rattle.writing.proofs.RowsPut.{one_key, two_keys}
 use Rattle.writing.proofs.row_bytes.put_keys.Goals as goal
 
-pub slice-bounds-put-count : goal.slice-bounds-put-count
-slice-bounds-put-count g c =
+pub slice_bounds-put-count : goal.slice_bounds-put-count
+slice_bounds-put-count g c =
     let long : length c.args.fields.now ≡ 2 * c.args.width = ap length c.requires.1.1 ∙ length-replicate (2 * c.args.width) 0 in
     omega (arith, c.put-in-Count.auto.row)
 
-pub slice-bounds-put-start : goal.slice-bounds-put-start
-slice-bounds-put-start g c =
+pub slice_bounds-put-start : goal.slice_bounds-put-start
+slice_bounds-put-start g c =
     let long : length c.args.fields.now ≡ 2 * c.args.width = ap length c.requires.1.1 ∙ length-replicate (2 * c.args.width) 0 in
     let within : c.args.width ≤ length c.put-in-Count.new.row = omega (arith, c.put-in-Count.auto.row) in
     within

@@ -6,8 +6,8 @@ use Rattle.archive.specs.Format.{zeros, key_fields, request_length}
 use Rattle.writing.proofs.RowsPut.{four_first, behind-four, put-behind-four}
 use Rattle.writing.proofs.row_bytes.put_request.Goals as goal
 
-pub put-keys-requires : goal.put-keys-requires
-put-keys-requires g c =
+pub put_keys-requires : goal.put_keys-requires
+put_keys-requires g c =
     let k = c.number.result in
     let s = c.number-2.result in
     let front : set (set c.clear.new.part 0 k) 1 s ≡ k ∷ s ∷ 0 ∷ 0 ∷ zeros (2 * c.args.width) = ap (λ l. set (set l 0 k) 1 s) c.clear.ensures ∙ ap (λ l. set l 1 s) (four_first (length c.args.part.now) (2 * c.args.width) k c.requires.1.1) in
@@ -21,4 +21,4 @@ returns g c =
     let asked = c.request-request.ensures in
     let kind : k ≡ kind_number (kind_of c.args.row.now.request) = c.number.ensures ∙ ap kind_number (c.kind.ensures ∙ ap kind_of asked) in
     let station : s ≡ c.args.row.now.station.number = c.number-2.ensures ∙ ap (λ t. t.number) c.station.ensures in
-    put-behind-four (set (set c.clear.new.part 0 k) 1 s) k s 0 0 (zeros (2 * c.args.width)) c.put-keys.new.fields front ∙ ap (λ l. k ∷ s ∷ 0 ∷ 0 ∷ l) (c.put-keys.ensures ∙ ap (key_fields g.K.StoredKey.form) asked) ∙ ap₂ (λ x y. x ∷ y ∷ 0 ∷ 0 ∷ key_fields g.K.StoredKey.form c.args.row.now.request) kind station
+    put-behind-four (set (set c.clear.new.part 0 k) 1 s) k s 0 0 (zeros (2 * c.args.width)) c.put_keys.new.fields front ∙ ap (λ l. k ∷ s ∷ 0 ∷ 0 ∷ l) (c.put_keys.ensures ∙ ap (key_fields g.K.StoredKey.form) asked) ∙ ap₂ (λ x y. x ∷ y ∷ 0 ∷ 0 ∷ key_fields g.K.StoredKey.form c.args.row.now.request) kind station

@@ -24,6 +24,6 @@ returns g c =
     let tally-laws : TallyLaws tallies = let m = g.met.T.StoredTally in record { long = m.long; reread = m.reread; rewritten = m.rewritten } in
     record {
       answer = λ rows h. whole-answer keys tallies key_laws tally-laws rows c.count-count.result c.width-key.result c.width-tally.result (c.count-count.ensures.all rows h) c.width-key.ensures c.width-tally.ensures c.if-key-gt-WIDEST.false c.if-tally-gt-WIDEST.false c.args.buffer.now c.if-buffer-end.false;
-      after = λ rows h. whole-after keys tallies key_laws tally-laws rows c.count-count.result c.width-key.result c.width-tally.result (c.count-count.ensures.all rows h) c.width-key.ensures c.width-tally.ensures c.if-key-gt-WIDEST.false c.if-tally-gt-WIDEST.false c.args.buffer.now c.put-header.new.buffer c.put-requests.new.part c.put-answers.new.part c.if-buffer-end.false c.put-header.ensures (c.put-requests.ensures rows h (c.count-count.ensures.all rows h)) (c.put-answers.ensures rows h (c.count-count.ensures.all rows h));
+      after = λ rows h. whole-after keys tallies key_laws tally-laws rows c.count-count.result c.width-key.result c.width-tally.result (c.count-count.ensures.all rows h) c.width-key.ensures c.width-tally.ensures c.if-key-gt-WIDEST.false c.if-tally-gt-WIDEST.false c.args.buffer.now c.put_header.new.buffer c.put_requests.new.part c.put_answers.new.part c.if-buffer-end.false c.put_header.ensures (c.put_requests.ensures rows h (c.count-count.ensures.all rows h)) (c.put_answers.ensures rows h (c.count-count.ensures.all rows h));
       kept = λ e. absurd (true≢false e);
     }

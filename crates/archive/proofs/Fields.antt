@@ -1,6 +1,6 @@
 -- Header fields as they are read, one after the other. Rests on Faults.
-use Rattle.std.proofs.Common.{◌≡◌, ℕ, zero, suc, ◌+◌, ◌*◌, ◌<◌, ◌≤◌, Bool, true, false, eqb, List, [], ◌∷◌, ◌++◌, length, get_or, take, drop, sym, refl, ap, ◌∙◌, arith}
-use Rattle.std.proofs.lemmas.List.{drop_more, get_or-drop}
+use Rattle.std.proofs.Common.{◌≡◌, ℕ, ◌+◌, ◌≤◌, List, [], ◌∷◌, length, get_or, take, drop, ap, ◌∙◌, arith}
+use Rattle.std.proofs.lemmas.List.{drop_more}
 
 -- four bytes of a row, one by one
 pub four-at : (bytes : List ℕ) (offset : ℕ) → offset + 4 ≤ length bytes → take 4 (drop offset bytes) ≡ get_or bytes offset 0 ∷ get_or bytes (offset + 1) 0 ∷ get_or bytes (offset + 2) 0 ∷ get_or bytes (offset + 3) 0 ∷ []

@@ -1,20 +1,19 @@
 -- What was written is read back, and what was read is written again. Rests on Headers, RowsWritten, RowsRead and RowsSame.
-use Rattle.std.proofs.Common.{◌≡◌, ℕ, ◌+◌, ◌-◌, ◌*◌, ◌≤◌, true, List, [], ◌∷◌, ◌++◌, length, take, drop, None, sym, refl, ap, ◌∙◌, ap₂, mul-add, arith, length-append, length-drop}
+use Rattle.std.proofs.Common.{◌≡◌, ℕ, ◌+◌, ◌-◌, ◌*◌, ◌≤◌, List, ◌++◌, length, drop, None, sym, ap, ◌∙◌, ap₂, mul-add, arith, length-append, length-drop}
 use Rattle.std.proofs.lemmas.List.{take_at, drop_at, drop-drop, take-append-drop, length-take-le}
 use Rattle.std.specs.List.{flat_map}
 use Rattle.requests.specs.declared.row.Row.{Row}
 use Rattle.stored.specs.Forms.{KeyForm, TallyForm}
-use Rattle.stored.specs.Numerals.{all_bytes}
 use Rattle.stored.specs.PairBytesLemmas.{all_bytes-drop}
 use Rattle.archive.specs.Format.{request_length, answer_length, answers_start, file_length, header, request_row, answer_row, file}
-use Rattle.archive.specs.Checks.{first_fault, rows_told, header_checks, requests_checks, answers_checks, requests_part, answers_part, checks, fault_of}
-use Rattle.archive.specs.Theorems.{FileOf, WrittenIsRead, ReadIsWritten}
+use Rattle.archive.specs.Checks.{first_fault, rows_told, header_checks, requests_checks, answers_checks, requests_part, answers_part, fault_of}
+use Rattle.archive.specs.Theorems.{WrittenIsRead, ReadIsWritten}
 use Rattle.archive.proofs.Laws.{KeyLaws, TallyLaws}
 use Rattle.archive.proofs.Faults.{first_after, none_front, none_back}
 use Rattle.archive.proofs.RowBytes.{joined_long, request_row_long, answer_row_long}
-use Rattle.archive.proofs.Headers.{header_tells_rows, header_sound, Headed, header_known}
+use Rattle.archive.proofs.Headers.{header_tells_rows, header_sound, header_known}
 use Rattle.archive.proofs.RowsWritten.{requests_sound, answers_sound}
-use Rattle.archive.proofs.RowsRead.{RowsFrom, rows_from}
+use Rattle.archive.proofs.RowsRead.{rows_from}
 use Rattle.archive.proofs.RowsSame.{rows_same}
 
 -- request rows and answer rows together

@@ -1,5 +1,5 @@
 -- The rows of a file by number. Rests on Files.
-use Rattle.std.proofs.Common.{◌≡◌, ℕ, zero, suc, ◌+◌, ◌-◌, ◌*◌, ◌<◌, ◌≤◌, Bool, true, false, cond, ltb, List, [], ◌∷◌, ◌++◌, length, take, drop, Some, None, Option, sym, refl, ap, ◌∙◌, ap₂, suc-mul, zero-add, zero-mul, arith, length-append, le-ltb}
+use Rattle.std.proofs.Common.{◌≡◌, ℕ, zero, suc, ◌+◌, ◌-◌, ◌*◌, ◌<◌, ◌≤◌, false, ltb, List, [], ◌∷◌, ◌++◌, length, take, drop, Some, None, Option, sym, refl, ap, ◌∙◌, ap₂, suc-mul, zero-mul, arith, length-append, le-ltb}
 use Rattle.std.proofs.lemmas.List.{take_at, drop_at, drop-drop, append_assoc, append-nil}
 use Rattle.std.proofs.lemmas.Option.{slice_get_past}
 use Rattle.std.specs.List.{slice_get, flat_map}
@@ -7,7 +7,6 @@ use Rattle.requests.specs.declared.row.Row.{Row}
 use Rattle.stored.specs.Forms.{KeyForm, TallyForm, width_of}
 use Rattle.archive.specs.declared.opened.Archive.{Archive}
 use Rattle.archive.specs.Format.{request_length, answer_length, header, request_row, answer_row, file}
-use Rattle.archive.specs.Theorems.{FileOf}
 use Rattle.archive.specs.Opened.{Opened, row_numbered, part_of}
 use Rattle.archive.proofs.Laws.{KeyLaws, TallyLaws}
 use Rattle.archive.proofs.RowBytes.{joined_long, request_row_long, answer_row_long}

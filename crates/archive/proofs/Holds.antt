@@ -1,5 +1,5 @@
 -- What holds of rows without a fault, field by field. Rests on Faults.
-use Rattle.std.proofs.Common.{◌≡◌, ℕ, ◌+◌, Bool, true, false, ◌||◌, eqb, List, [], ◌∷◌, ◌++◌, get_or, take, drop, is_some, Some, None, refl, arith}
+use Rattle.std.proofs.Common.{◌≡◌, ℕ, ◌+◌, Bool, true, ◌||◌, eqb, List, [], ◌∷◌, get_or, take, drop, is_some, None}
 use Rattle.octets.specs.Runs.{all_are}
 use Rattle.requests.specs.Stations.{is_station}
 use Rattle.stored.specs.Forms.{KeyForm}

@@ -1,14 +1,14 @@
 -- What the reader knows once the header has no fault, and how the layers' faults make the file's. Rests on Headers and Files.
-use Rattle.std.proofs.Common.{◌≡◌, ℕ, zero, suc, ◌+◌, ◌-◌, ◌*◌, ◌<◌, ◌≤◌, Bool, true, false, ◌&&◌, ltb, leb, List, [], ◌∷◌, ◌++◌, length, get_or, take, drop, Some, None, Option, sym, refl, ap, ◌∙◌, ap₂, mul-le-mul, arith, length-drop}
+use Rattle.std.proofs.Common.{◌≡◌, ℕ, zero, suc, ◌+◌, ◌-◌, ◌*◌, ◌<◌, ◌≤◌, Bool, true, false, ◌&&◌, leb, List, [], ◌∷◌, ◌++◌, length, get_or, take, drop, Some, None, Option, sym, refl, ap, ◌∙◌, ap₂, mul-le-mul, arith, length-drop}
 use Rattle.std.proofs.lemmas.List.{take_rest, length-take-le}
 use Rattle.std.specs.Option.{option_or}
 use Rattle.stored.specs.Forms.{KeyForm, TallyForm, width_of}
 use Rattle.stored.specs.Numerals.{all_bytes}
 use Rattle.archive.specs.declared.fault.Fault.{Fault}
-use Rattle.archive.specs.Format.{request_length, answer_length, answers_start, file_length}
+use Rattle.archive.specs.Format.{request_length, answer_length, answers_start}
 use Rattle.archive.specs.Checks.{Check, first_fault, rows_told, widths_check, room_check, nine_checks, end_check, header_checks, requests_checks, answers_checks, requests_part, answers_part, fault_of}
 use Rattle.archive.proofs.Faults.{first_append, first_told}
-use Rattle.archive.proofs.Headers.{Headed, header_known}
+use Rattle.archive.proofs.Headers.{header_known}
 use Rattle.archive.proofs.Files.{rows_long}
 
 -- rows of u8 are bytes

@@ -1,5 +1,5 @@
 -- The lengths of rows and of runs of rows. Rests on Laws.
-use Rattle.std.proofs.Common.{◌≡◌, ℕ, zero, suc, ◌+◌, ◌*◌, List, [], ◌∷◌, ◌++◌, length, Some, None, Option, sym, refl, ap, ◌∙◌, ap₂, suc-mul, zero-mul, arith, length-append}
+use Rattle.std.proofs.Common.{◌≡◌, ℕ, suc, ◌+◌, ◌*◌, List, [], ◌∷◌, length, Some, None, Option, sym, ◌∙◌, ap₂, suc-mul, zero-mul, arith, length-append}
 use lib.ListN.{length-replicate}
 use Rattle.std.specs.List.{flat_map}
 use Rattle.requests.specs.declared.answer.Answer.{Answer}
@@ -8,7 +8,7 @@ use Rattle.requests.specs.declared.request.Request.{Request}
 use Rattle.requests.specs.declared.request.Request.TheVariants.{Enter, Withdraw, LookUp, Count}
 use Rattle.requests.specs.declared.row.Row.{Row}
 use Rattle.stored.specs.Forms.{KeyForm, TallyForm}
-use Rattle.archive.specs.Format.{request_length, answer_length, zeros, key_fields, tally_field, request_row, answer_row}
+use Rattle.archive.specs.Format.{request_length, answer_length, key_fields, tally_field, request_row, answer_row}
 use Rattle.archive.proofs.Laws.{KeyLaws, TallyLaws}
 
 -- a run of parts of one length

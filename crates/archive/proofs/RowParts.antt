@@ -1,5 +1,5 @@
 -- The fields of a row as the reader cuts them out, and what it tells when all before the last hold. Assumes nothing.
-use Rattle.std.proofs.Common.{◌≡◌, ℕ, ◌+◌, ◌-◌, ◌≤◌, Bool, true, false, cond, ◌||◌, eqb, ltb, List, [], ◌∷◌, ◌++◌, length, get_or, take, drop, is_some, is_ok, Some, None, Option, sym, refl, ap, ◌∙◌, ap₂, arith, take_all}
+use Rattle.std.proofs.Common.{◌≡◌, ℕ, ◌+◌, ◌-◌, ◌≤◌, Bool, true, false, cond, ◌||◌, eqb, List, length, get_or, take, drop, is_some, is_ok, Some, None, Option, sym, refl, ap, ◌∙◌, arith, take_all}
 use Rattle.std.proofs.lemmas.List.{take_rest}
 use Rattle.octets.specs.Runs.{all_are}
 use Rattle.requests.specs.Stations.{is_station}

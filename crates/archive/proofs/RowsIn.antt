@@ -1,5 +1,5 @@
 -- Keys, tallies and rows as the reader takes them out of rows. Rests on RowsSame.
-use Rattle.std.proofs.Common.{◌≡◌, ℕ, ◌+◌, ◌-◌, ◌*◌, ◌≤◌, Bool, true, false, cond, eqb, List, [], ◌∷◌, ◌++◌, length, get_or, take, drop, Some, None, Ok, Err, Option, Result, sym, refl, ap, ◌∙◌, ap₂, true≢false, arith, take_all, MatchOption}
+use Rattle.std.proofs.Common.{◌≡◌, ℕ, ◌-◌, ◌≤◌, false, eqb, List, length, get_or, take, drop, Some, None, Ok, Err, Option, Result, sym, refl, ap, ◌∙◌, ap₂, true≢false, arith, take_all, MatchOption}
 use Rattle.std.proofs.lemmas.List.{take_rest}
 use Rattle.std.specs.Option.{option_map, option_zip}
 use Rattle.keys.specs.declared.refusal.Refusal.{Refusal}
@@ -12,7 +12,7 @@ use Rattle.requests.specs.declared.request.Request.TheVariants.{Count}
 use Rattle.requests.specs.declared.row.Row.{Row}
 use Rattle.requests.specs.declared.station.Station.{Station}
 use Rattle.requests.specs.Fits.{fits}
-use Rattle.archive.specs.Format.{request_row, answer_row, request_length, answer_length}
+use Rattle.archive.specs.Format.{request_row, answer_row}
 use Rattle.archive.specs.RowsIn.{request_in, answer_in}
 use Rattle.archive.proofs.Laws.{KeyLaws, TallyLaws}
 use Rattle.archive.proofs.RowsSame.{row_path, station_path, request_back, answer_back}

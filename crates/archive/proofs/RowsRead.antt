@@ -1,6 +1,5 @@
 -- Rows without a fault are the bytes of some rows. Rests on Holds and RowBytes.
-use Rattle.std.proofs.Common.{◌≡◌, ℕ, zero, suc, ◌+◌, ◌-◌, ◌*◌, ◌≤◌, Bool, true, false, cond, ◌&&◌, ◌||◌, eqb, leb, ◌⊎◌, List, [], ◌∷◌, ◌++◌, length, get_or, take, drop, is_some, Some, None, Option, sym, refl, ap, ◌∙◌, ap₂, inl, inr, ⊎_elim, true≢false, suc-mul, zero-mul, arith, length-drop, eqb-true}
-use borrow.Author.Tests.{eqb-false}
+use Rattle.std.proofs.Common.{◌≡◌, ℕ, zero, suc, ◌+◌, ◌*◌, ◌≤◌, Bool, true, false, ◌||◌, eqb, ◌⊎◌, List, [], ◌∷◌, ◌++◌, length, get_or, take, drop, is_some, Some, None, Option, sym, refl, ap, ◌∙◌, ap₂, inl, inr, ⊎_elim, true≢false, suc-mul, zero-mul, arith, length-drop, eqb-true}
 use Rattle.std.proofs.lemmas.List.{take-append-drop, length-take-le, nil_from_length, get_or-take}
 use Rattle.octets.specs.Runs.{all_are}
 use Rattle.std.specs.List.{flat_map}
@@ -21,11 +20,11 @@ use Rattle.stored.specs.Forms.{KeyForm, TallyForm}
 use Rattle.stored.specs.Numerals.{all_bytes}
 use Rattle.stored.specs.PairBytesLemmas.{all_bytes-take, all_bytes-drop}
 use Rattle.archive.specs.Format.{request_length, answer_length, zeros, key_fields, tally_field, code_of, request_row, answer_row}
-use Rattle.archive.specs.Checks.{Check, first_fault, kind_numbered, is_second, is_code, request_checks, requests_checks, answer_checks, answers_checks}
+use Rattle.archive.specs.Checks.{first_fault, kind_numbered, is_second, is_code, request_checks, requests_checks, answer_checks, answers_checks}
 use Rattle.archive.proofs.Laws.{KeyLaws, TallyLaws}
 use Rattle.archive.proofs.Faults.{none_front, none_back}
 use Rattle.archive.proofs.RowsWritten.{kind_reread}
-use Rattle.archive.proofs.Holds.{RequestHolds, request_holds, AnswerHolds, answer-holds}
+use Rattle.archive.proofs.Holds.{RequestHolds, request_holds, answer-holds}
 
 -- the value that is there
 abbrev pub Given : {X : Type 0} → Option X → Type 0

@@ -1,5 +1,5 @@
 -- Rows that were written have no fault. Rests on RowBytes and Faults.
-use Rattle.std.proofs.Common.{◌≡◌, ℕ, zero, suc, ◌+◌, ◌*◌, Bool, true, false, cond, ◌||◌, eqb, List, [], ◌∷◌, ◌++◌, length, get_or, take, drop, is_some, Some, None, Option, sym, refl, ap, ◌∙◌, ap₂, arith}
+use Rattle.std.proofs.Common.{◌≡◌, ℕ, zero, suc, ◌+◌, true, ◌||◌, eqb, List, [], ◌∷◌, ◌++◌, length, take, drop, is_some, Some, None, Option, refl, ap, ◌∙◌, ap₂, arith}
 use Rattle.std.proofs.lemmas.List.{take_at, drop_at}
 use Rattle.octets.specs.Runs.{all_are}
 use Rattle.std.specs.List.{flat_map}
@@ -10,16 +10,15 @@ use Rattle.requests.specs.declared.answer.Answer.TheVariants.{Changed, Unchanged
 use Rattle.requests.specs.declared.request.Request.{Request}
 use Rattle.requests.specs.declared.request.Request.TheVariants.{Enter, Withdraw, LookUp, Count}
 use Rattle.requests.specs.declared.row.Row.{Row}
-use Rattle.requests.specs.Answers.{answers, answer_code}
 use Rattle.requests.specs.Fits.{fits}
 use Rattle.requests.specs.Kinds.{kind_number}
 use Rattle.requests.specs.Requests.{kind_of}
 use Rattle.requests.specs.Stations.{is_station}
 use Rattle.stored.specs.Forms.{KeyForm, TallyForm}
 use Rattle.archive.specs.Format.{request_length, answer_length, zeros, key_fields, tally_field, code_of, request_row, answer_row}
-use Rattle.archive.specs.Checks.{Check, first_fault, kind_numbered, is_second, is_code, request_checks, requests_checks, answer_checks, answers_checks}
+use Rattle.archive.specs.Checks.{first_fault, kind_numbered, is_second, is_code, request_checks, requests_checks, answer_checks, answers_checks}
 use Rattle.archive.proofs.Laws.{KeyLaws, TallyLaws}
-use Rattle.archive.proofs.Faults.{first_past, first_after}
+use Rattle.archive.proofs.Faults.{first_after}
 use Rattle.archive.proofs.RowBytes.{request_row_long, answer_row_long}
 
 -- a kind is the one of its number

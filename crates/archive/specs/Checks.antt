@@ -1,5 +1,5 @@
 -- The checks of a file in their order, and the first that fails.
-use Rattle.std.specs.Prelude.{ℕ, zero, suc, ◌+◌, ◌*◌, Bool, true, false, cond, ◌&&◌, ◌||◌, List, [], ◌∷◌, ◌++◌, length, take, drop, is_some, Some, None, Option, ◌==◌, nat_le, slice_index}
+use Rattle.std.specs.Prelude.{ℕ, zero, suc, ◌+◌, ◌*◌, Bool, false, cond, ◌&&◌, ◌||◌, List, [], ◌∷◌, ◌++◌, length, take, drop, is_some, Some, None, Option, ◌==◌, nat_le, slice_index}
 use Rattle.octets.specs.Runs.{all_are}
 use Rattle.keys.specs.declared.refusal.Refusal.{Refusal}
 use Rattle.keys.specs.declared.refusal.Refusal.TheVariants.{TooWide, FileLength, HeaderField, RequestRow, AnswerRow}
@@ -10,7 +10,6 @@ use Rattle.requests.specs.Stations.{is_station}
 use Rattle.stored.specs.Forms.{KeyForm, TallyForm, widest}
 use Rattle.stored.specs.Numerals.{value}
 use Rattle.archive.specs.declared.fault.Fault.{Fault}
-use Rattle.archive.specs.declared.layer.Layer.{Layer}
 use Rattle.archive.specs.declared.layer.Layer.TheVariants.{Header, Requests, Answers}
 use Rattle.archive.specs.Format.{edition, most_rows, header_length, request_length, answer_length, answers_start, later_fields}
 

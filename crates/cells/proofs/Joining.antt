@@ -1,12 +1,12 @@
 -- A request's cell written where it left a queue or joined one: which change of the state that shows. Rests on Leaving and Singles.
-use Rattle.std.proofs.Common.{◌≡◌, ℕ, zero, suc, ◌+◌, ◌<◌, ◌≤◌, Bool, true, false, cond, eqb, List, [], ◌∷◌, ◌++◌, map, length, take, set, Some, None, Option, sym, refl, ap, ◌∙◌, subst, true≢false, arith}
+use Rattle.std.proofs.Common.{◌≡◌, ℕ, suc, ◌+◌, ◌<◌, Bool, true, false, cond, eqb, List, [], ◌∷◌, ◌++◌, take, set, Some, None, Option, sym, refl, ap, ◌∙◌, arith}
 use mathlib.Core.Path.{fun_ext}
 use Rattle.std.specs.Option.{option_map}
 use Rattle.std.proofs.lemmas.Bool.{eqb-true}
 use Rattle.keys.specs.declared.key.Key as key
 use Rattle.tallies.specs.declared.tally.Tally as tally
 use Rattle.rules.specs.Changes.{put, with_queue, with_waiter}
-use Rattle.rules.specs.Queues.{numbered, stands}
+use Rattle.rules.specs.Queues.{numbered}
 use Rattle.rules.specs.Sound.{stands_in}
 use Rattle.rules.specs.States.{State, Waiter}
 use Rattle.rules.specs.declared.mode.Mode.{Mode}

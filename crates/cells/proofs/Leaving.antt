@@ -1,17 +1,15 @@
 -- A request leaves a queue or joins one: what its cell's waits make of every queue. Rests on Rosters.
-use Rattle.std.proofs.Common.{◌≡◌, ℕ, zero, suc, ◌+◌, ◌<◌, ◌≤◌, Bool, true, false, cond, ◌&&◌, ◌||◌, eqb, List, [], ◌∷◌, ◌++◌, length, set, Some, None, Option, sym, refl, ap, ◌∙◌, subst, true≢false, arith}
-use mathlib.Core.Path.{fun_ext}
+use Rattle.std.proofs.Common.{◌≡◌, ℕ, zero, suc, ◌+◌, ◌<◌, ◌≤◌, Bool, true, false, cond, ◌&&◌, ◌||◌, eqb, List, [], ◌∷◌, ◌++◌, set, Some, None, Option, sym, refl, ap, ◌∙◌, true≢false, arith}
 use Rattle.std.proofs.lemmas.Bool.{eqb-true}
 use Rattle.rules.specs.Queues.{behind, heads, numbered, stands}
 use Rattle.rules.specs.Sound.{stands_in, same_mode, Rises}
 use Rattle.rules.specs.States.{Waiter}
 use Rattle.rules.specs.declared.mode.Mode.{Mode}
-use Rattle.rules.specs.declared.mode.Mode.TheVariants as mode
-use Rattle.rules.proofs.SoundQueues.{mode_self, rises-above}
+use Rattle.rules.proofs.SoundQueues.{mode_self}
 use Rattle.cells.specs.declared.waits.Waits.{Waits}
 use Rattle.cells.specs.declared.waits.Waits.TheVariants.{Nowhere, Between, From, Upto, Halves}
-use Rattle.cells.specs.Rosters.{mode_at, waiter_if, roster, waits_without, waits_with, removed}
-use Rattle.cells.proofs.Rosters.{roster-same, roster_joins, Nobody, behind_index}
+use Rattle.cells.specs.Rosters.{mode_at, waiter_if, roster, waits_without, removed}
+use Rattle.cells.proofs.Rosters.{Nobody, behind_index}
 
 -- a request that left p waits there no more, and elsewhere as before
 pub without_mode : (w : Waits) (p q : ℕ) → mode_at (waits_without w p) q ≡ cond (eqb q p) None (mode_at w q)

@@ -1,5 +1,5 @@
 -- A cell of a submitted request is written: what that makes of the state shown. Rests on Numbers.
-use Rattle.std.proofs.Common.{◌≡◌, ℕ, suc, ◌<◌, ◌≤◌, min, Bool, true, false, cond, eqb, List, map, length, take, set, Some, None, Option, sym, refl, ap, ◌∙◌, arith, length-set}
+use Rattle.std.proofs.Common.{◌≡◌, ℕ, suc, ◌<◌, ◌≤◌, min, Bool, true, false, cond, eqb, List, map, length, take, set, Some, None, Option, sym, refl, ap, ◌∙◌, length-set}
 use mathlib.Core.Path.{fun_ext}
 use lib.Seq.{take-set-lt, map-set}
 use Rattle.std.specs.Option.{option_map}

@@ -1,9 +1,9 @@
 -- Names are ASCII. Assumes nothing.
-use Rattle.std.proofs.Common.{◌≡◌, ℕ, ◌<◌, Bool, true, false, List, [], ◌∷◌, ◌++◌, IsUtf8, IsAscii, sym, refl, ap, ◌∙◌, arith}
+use Rattle.std.proofs.Common.{◌≡◌, ℕ, ◌<◌, true, List, [], ◌∷◌, IsUtf8, IsAscii, arith}
 use Rattle.std.proofs.lemmas.Str.Ascii.{IsAscii-nil, IsAscii-cons}
 use Rattle.std.proofs.lemmas.Str.{IsUtf8-from_ascii}
 use Rattle.keys.specs.declared.section.Section.{Section}
-use Rattle.keys.specs.Names.{all_characters, is_name, is_section, name_in}
+use Rattle.keys.specs.Names.{all_characters, name_in}
 
 characters_ascii : (name : List ℕ) → all_characters name ≡ true → IsAscii name
 characters_ascii [] h = IsAscii-nil

@@ -2,7 +2,6 @@
 use Rattle.std.proofs.Common.{◌≡◌, ℕ, ◌+◌, ◌-◌, ◌<◌, ◌≤◌, List, [], ◌∷◌, length, take, drop, refl, ap, ◌∙◌, arith}
 use Rattle.std.proofs.lemmas.List.{take_rest, drop_all}
 use Rattle.octets.specs.Runs.{up_to}
-use Rattle.octets.specs.Cuts.{pieces}
 use Rattle.octets.proofs.Cuts.{pieces-last, pieces-parted}
 use Rattle.octets.proofs.Joins.{pieces_some}
 use Rattle.route_count.specs.Rows.{but_empty_last, lines}

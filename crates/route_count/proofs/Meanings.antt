@@ -1,5 +1,5 @@
 -- The weights joined are the numbers of routes. Assumes nothing.
-use Rattle.std.proofs.Common.{◌≡◌, ℕ, ◌+◌, ◌%◌, ◌^◌, List, [], ◌∷◌, Ok, Err, Result, sym, refl, ap, ◌∙◌, subst}
+use Rattle.std.proofs.Common.{◌≡◌, ◌+◌, ◌%◌, ◌^◌, List, [], ◌∷◌, Ok, Err, Result, sym, refl, ap, ◌∙◌, subst}
 use native.Mathlib.Nat.{add-mod-mod}
 use Rattle.keys.specs.declared.class.Class.{Class}
 use Rattle.keys.specs.declared.class.Class.TheVariants.{M, W, C, S}

@@ -1,5 +1,5 @@
 -- Texts put together: the totals, and one refused line after another. Assumes nothing.
-use Rattle.std.proofs.Common.{◌≡◌, ℕ, ◌+◌, List, [], ◌∷◌, ◌++◌, map, Err, codes, decimal, sym, refl, ap, ◌∙◌, append_assoc}
+use Rattle.std.proofs.Common.{◌≡◌, ℕ, ◌+◌, List, ◌∷◌, ◌++◌, map, Err, codes, decimal, sym, ap, ◌∙◌, append_assoc}
 use Rattle.keys.specs.declared.refusal.Refusal.{Refusal}
 use Rattle.words.specs.Lines.{line_route}
 use Rattle.route_count.specs.Reports.{newline, counted_line, totals_of, refused_line, refused_lines}

@@ -1,5 +1,5 @@
 -- The bytes of an area's key: the area's number in two, and then the key below.
-use Rattle.std.specs.Prelude.{ℕ, ◌+◌, Bool, cond, List, [], ◌∷◌, ◌++◌, Some, None, Option, nat_lt}
+use Rattle.std.specs.Prelude.{ℕ, ◌+◌, cond, List, [], ◌∷◌, ◌++◌, Some, None, Option, nat_lt}
 use Rattle.keys.specs.declared.area.Area.{Area}
 use Rattle.stored.specs.Numerals.{byte, two, value}
 use Rattle.stored.specs.Forms.{KeyForm}

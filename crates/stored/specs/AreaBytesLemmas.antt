@@ -1,12 +1,12 @@
 -- Keys of areas and their bytes. Rests on HighFirst and Puts.
-use Rattle.std.specs.Prelude.{◌≡◌, ℕ, suc, ◌+◌, ◌-◌, ◌%◌, ◌<◌, ◌≤◌, Bool, true, false, cond, ltb, List, [], ◌∷◌, ◌++◌, length, take, drop, set, Some, None, Ok, Err, Option, Result, nat_lt, slice_index, slice_set, refl}
+use Rattle.std.specs.Prelude.{◌≡◌, ℕ, suc, ◌+◌, ◌-◌, ◌%◌, ◌<◌, ◌≤◌, Bool, true, false, ltb, List, [], ◌∷◌, ◌++◌, length, take, drop, set, Some, None, Ok, Err, Option, Result, nat_lt, slice_index, slice_set, refl}
 use Rattle.std.proofs.Common.{sym, ap, ap₂, ◌∙◌, arith, take_all}
 use borrow.Rule.Slice.PartMut.{put_mid}
 use Rattle.std.proofs.lemmas.List.{take_rest, append-nil, drop_all}
 use Rattle.keys.specs.declared.refusal.Refusal.{Refusal}
 use Rattle.keys.specs.declared.area.Area.{Area}
-use Rattle.stored.specs.Numerals.{byte, two, value}
-use Rattle.stored.specs.Forms.{KeyForm, in_range, key_got, put_answer, put_after, width_of}
+use Rattle.stored.specs.Numerals.{two, value}
+use Rattle.stored.specs.Forms.{KeyForm, in_range, key_got, put_after, width_of}
 use Rattle.stored.specs.AreaBytes.{area_in, area_read, area_written, area_form}
 use Rattle.stored.specs.HighFirst.{two_read, two_written}
 use Rattle.stored.specs.Puts.{checked_through, put_through}

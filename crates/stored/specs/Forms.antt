@@ -1,5 +1,5 @@
 -- The stored form of a kind: how many bytes its values have, which, and what bytes are a value; and how a value is put and got.
-use Rattle.std.specs.Prelude.{ℕ, min, Bool, cond, List, ◌++◌, length, take, drop, Some, None, Ok, Err, Option, Result, nat_lt}
+use Rattle.std.specs.Prelude.{ℕ, min, cond, List, ◌++◌, length, take, drop, Some, None, Ok, Err, Option, Result, nat_lt}
 use Rattle.keys.specs.declared.refusal.Refusal.{Refusal}
 use Rattle.keys.specs.declared.refusal.Refusal.TheVariants.{TooShort, OutOfRange, TooWide}
 

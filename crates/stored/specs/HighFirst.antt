@@ -1,6 +1,6 @@
 -- Numbers in bytes: what was written is read back, and bytes that were read are written again. Assumes nothing.
-use Rattle.std.specs.Prelude.{◌≡◌, ℕ, ◌+◌, ◌*◌, ◌/◌, ◌%◌, ◌^◌, ◌<◌, List, [], ◌∷◌, refl}
-use Rattle.std.proofs.Common.{ap, ap₂, arith}
+use Rattle.std.specs.Prelude.{◌≡◌, ℕ, ◌/◌, ◌%◌, ◌<◌, [], ◌∷◌}
+use Rattle.std.proofs.Common.{ap₂, arith}
 use Rattle.stored.specs.Numerals.{two, four, value}
 
 pub two_read : (n : ℕ) → value (two n) ≡ n

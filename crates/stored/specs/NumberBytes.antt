@@ -1,5 +1,5 @@
 -- The four bytes of a number tally, and the eight of counts by class: M, W, C and S in two each.
-use Rattle.std.specs.Prelude.{ℕ, List, [], ◌∷◌, ◌++◌, take, drop}
+use Rattle.std.specs.Prelude.{ℕ, List, ◌++◌, take, drop}
 use Rattle.tallies.specs.declared.number.Number.{Number}
 use Rattle.tallies.specs.declared.classes.Classes.{Classes}
 use Rattle.tallies.specs.Numbers.{number_of}

@@ -1,12 +1,12 @@
 -- Numbers and counts by class and their bytes. Rests on HighFirst and the equality of such tallies.
-use Rattle.std.specs.Prelude.{◌≡◌, ℕ, ◌+◌, ◌*◌, ◌/◌, ◌%◌, ◌^◌, ◌<◌, Bool, true, false, List, [], ◌∷◌, ◌++◌, length, refl}
-use Rattle.std.proofs.Common.{sym, ap, ◌∙◌, mod-eq_of_lt, arith}
+use Rattle.std.specs.Prelude.{◌≡◌, ℕ, ◌%◌, ◌^◌, ◌<◌, true, List, [], ◌∷◌, ◌++◌, length}
+use Rattle.std.proofs.Common.{ap, ◌∙◌, mod-eq_of_lt, arith}
 use Rattle.tallies.specs.declared.number.Number.{Number}
 use Rattle.tallies.specs.declared.classes.Classes.{Classes}
 use Rattle.tallies.specs.NumbersLemmas.{number_path}
 use Rattle.tallies.specs.ClassCountsLemmas.{classes_path}
 use Rattle.stored.specs.Numerals.{two, four, value, all_bytes}
-use Rattle.stored.specs.NumberBytes.{number_form, classes_written, classes_read, classes_form}
+use Rattle.stored.specs.NumberBytes.{number_form, classes_written, classes_read}
 use Rattle.stored.specs.HighFirst.{two_read, two_written, four_read, four_written}
 
 pub number_reread : (t : Number) → number_form.read (number_form.written t) ≡ t

@@ -1,5 +1,5 @@
 -- The bytes of two tallies side by side: those of the first, then those of the second.
-use Rattle.std.specs.Prelude.{ℕ, ◌+◌, List, ◌++◌, take, drop}
+use Rattle.std.specs.Prelude.{◌+◌, ◌++◌, take, drop}
 use Rattle.tallies.specs.declared.pair.Pair.{Pair}
 use Rattle.stored.specs.Forms.{TallyForm}
 

@@ -1,10 +1,10 @@
 -- Pairs of tallies and their bytes. Rests on Puts.
-use Rattle.std.specs.Prelude.{◌≡◌, ℕ, zero, suc, ◌+◌, ◌-◌, ◌≤◌, Bool, true, false, ◌&&◌, ltb, List, [], ◌∷◌, ◌++◌, length, take, drop, Ok, refl}
+use Rattle.std.specs.Prelude.{◌≡◌, ℕ, zero, suc, ◌+◌, ◌-◌, ◌≤◌, true, List, [], ◌∷◌, ◌++◌, length, take, drop, Ok, refl}
 use Rattle.std.proofs.Common.{sym, ap, ap₂, ◌∙◌, arith}
 use borrow.Rule.Slice.PartMut.{put_mid}
-use Rattle.std.proofs.lemmas.List.{take_at, drop_at, take-take, drop-take, length-append, length-take-le, length-drop, take-append-drop, drop-drop, drop_all, append-nil, append_assoc, take_rest}
+use Rattle.std.proofs.lemmas.List.{take_at, drop_at, take-take, drop-take, length-take-le, length-drop, take-append-drop, drop-drop, drop_all, append-nil, append_assoc, take_rest}
 use Rattle.tallies.specs.declared.pair.Pair.{Pair}
-use Rattle.stored.specs.Numerals.{all_bytes, byte}
+use Rattle.stored.specs.Numerals.{all_bytes}
 use Rattle.stored.specs.Forms.{TallyForm, put_after, tally_got}
 use Rattle.stored.specs.PairBytes.{pair_form}
 use Rattle.stored.specs.Puts.{checked_through, put_through}

@@ -1,5 +1,5 @@
 -- Putting and getting where the kind is not too wide and the row not too short. Assumes nothing.
-use Rattle.std.specs.Prelude.{◌≡◌, ℕ, ◌≤◌, Bool, true, false, cond, List, ◌++◌, length, drop, Result, nat_lt, refl}
+use Rattle.std.specs.Prelude.{◌≡◌, ℕ, ◌≤◌, false, List, ◌++◌, length, drop, Result, nat_lt}
 use Rattle.std.proofs.Common.{arith}
 use Rattle.keys.specs.declared.refusal.Refusal.{Refusal}
 use Rattle.stored.specs.Forms.{checked, put_after}

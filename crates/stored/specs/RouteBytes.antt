@@ -1,9 +1,8 @@
 -- The five bytes of a route: entry in two, exit in two, class in one.
-use Rattle.std.specs.Prelude.{ℕ, Bool, cond, ◌&&◌, List, [], ◌∷◌, ◌++◌, Some, None, Option, ◌==◌}
+use Rattle.std.specs.Prelude.{ℕ, cond, ◌&&◌, List, [], ◌∷◌, ◌++◌, Some, None, Option, ◌==◌}
 use Rattle.keys.specs.declared.class.Class.{Class}
 use Rattle.keys.specs.declared.class.Class.TheVariants.{M, W, C, S}
 use Rattle.keys.specs.declared.route.Route.{Route}
-use Rattle.keys.specs.declared.route.RouteFields.{RouteFields}
 use Rattle.keys.specs.Classes.{class_number}
 use Rattle.keys.specs.Ranges.{is_signal}
 use Rattle.keys.specs.Routes.{route_made}

@@ -1,12 +1,10 @@
 -- Sections and their eight bytes. Rests on the equality of sections.
-use Rattle.std.specs.Prelude.{◌≡◌, ℕ, ◌≤◌, Bool, true, false, List, [], ◌∷◌, length, take, Some, None, Ok, Err, ◌≢◌, slice_index, refl}
+use Rattle.std.specs.Prelude.{◌≡◌, ℕ, ◌≤◌, Bool, true, false, List, [], ◌∷◌, length, take, Some, None, ◌≢◌, slice_index, refl}
 use Rattle.std.proofs.Common.{sym, ap, ◌∙◌, true≢false, arith}
-use Rattle.keys.specs.declared.refusal.Refusal.TheVariants.{OutOfRange}
 use Rattle.keys.specs.declared.section.Section.{Section}
 use Rattle.keys.specs.Names.{is_section}
 use Rattle.keys.specs.Sections.{section_made, section_by}
 use Rattle.keys.specs.SectionsLemmas.{section_path}
-use Rattle.stored.specs.Forms.{in_range}
 use Rattle.stored.specs.SectionBytes.{section_read, section_if}
 
 section_if_kept : (bytes : List ℕ) (named : Bool) (e : is_section bytes ≡ named) (k : Section) → k.bytes ≡ bytes → section_if bytes named e ≡ Some k

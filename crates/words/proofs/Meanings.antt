@@ -1,5 +1,5 @@
 -- What is read of a line is what it means. Rests on Rows.
-use Rattle.std.proofs.Common.{◌≡◌, ℕ, Bool, true, false, ◌&&◌, List, Some, None, Option, Result, sym, refl, ◌∙◌, subst, inl, inr, arith}
+use Rattle.std.proofs.Common.{◌≡◌, ℕ, Bool, true, false, List, Some, None, Option, Result, sym, refl, subst, inl, inr, arith}
 use Rattle.keys.specs.declared.refusal.Refusal.{Refusal}
 use Rattle.keys.specs.declared.route.Route.{Route}
 use Rattle.keys.specs.Ranges.{is_signal, nearest_signal}

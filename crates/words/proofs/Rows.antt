@@ -1,5 +1,5 @@
 -- The words of a route and its text are one thing in two forms. Rests on Texts and on the pieces of a text.
-use Rattle.std.proofs.Common.{◌≡◌, ℕ, ◌<◌, false, List, [], ◌∷◌, ◌++◌, is_some, Some, None, decimal, Option, sym, refl, ap, ◌∙◌, true≢false, arith, Bor}
+use Rattle.std.proofs.Common.{◌≡◌, ℕ, ◌<◌, false, List, [], ◌∷◌, is_some, Some, None, decimal, Option, sym, ap, ◌∙◌, true≢false, arith, Bor}
 use Rattle.std.specs.Option.{option_map}
 use Rattle.octets.specs.Cuts.{pieces, first_of, others_of}
 use Rattle.octets.proofs.Joins.{joined_by, joined-pieces, pieces_alone, pieces-before}

@@ -1,5 +1,5 @@
 -- Lines that are routes, by their words.
-use Rattle.std.specs.Prelude.{ℕ, List, [], ◌∷◌, Some, None, Ok, Err, Option, Result}
+use Rattle.std.specs.Prelude.{ℕ, List, [], ◌∷◌, Some, None, Err, Option, Result}
 use Rattle.octets.specs.Cuts.{pieces}
 use Rattle.keys.specs.declared.class.Class.{Class}
 use Rattle.keys.specs.declared.refusal.Refusal.{Refusal}

@@ -1,5 +1,5 @@
 -- The file of an accepted archive's rows is that archive. Assumes nothing.
-use Rattle.std.proofs.Common.{◌≡◌, ℕ, ◌≤◌, Bool, true, false, ◌||◌, ltb, List, ◌++◌, length, drop, Ok, sym, refl, ap, ◌∙◌, ap₂, arith, le-ltb}
+use Rattle.std.proofs.Common.{◌≡◌, ℕ, ◌≤◌, false, ◌||◌, ltb, List, ◌++◌, length, drop, Ok, sym, ap, arith, le-ltb}
 use Rattle.requests.specs.declared.row.Row.{Row}
 use Rattle.stored.specs.Forms.{KeyForm, TallyForm}
 use Rattle.archive.specs.Format.{file}

@@ -1,7 +1,7 @@
 -- The header as it is put field by field. Assumes nothing.
-use Rattle.std.proofs.Common.{◌≡◌, ℕ, zero, suc, ◌+◌, ◌-◌, ◌*◌, ◌<◌, ◌≤◌, List, [], ◌∷◌, ◌++◌, length, get_or, take, drop, sym, refl, ap, ◌∙◌, ap₂, arith, length-append, take_all}
+use Rattle.std.proofs.Common.{◌≡◌, ℕ, ◌+◌, ◌-◌, ◌*◌, ◌<◌, ◌≤◌, List, [], ◌∷◌, ◌++◌, length, get_or, take, drop, sym, refl, ap, ◌∙◌, ap₂, arith, length-append}
 use borrow.Rule.Slice.PartMut.{put_mid}
-use Rattle.std.proofs.lemmas.List.{take_at, drop_at, drop-drop, append_assoc, take_more, length-take-le, flat_map_more, append-nil}
+use Rattle.std.proofs.lemmas.List.{take_at, drop_at, drop-drop, append_assoc, take_more, length-take-le, flat_map_more}
 use Rattle.std.specs.List.{flat_map}
 use Rattle.stored.specs.Numerals.{four}
 

@@ -1,5 +1,5 @@
 -- What writing an archive answers, and what the bytes then hold.
-use Rattle.std.specs.Prelude.{ℕ, Bool, cond, ◌||◌, List, ◌++◌, length, drop, Ok, Err, Result, nat_lt}
+use Rattle.std.specs.Prelude.{ℕ, cond, ◌||◌, List, ◌++◌, length, drop, Ok, Err, Result, nat_lt}
 use Rattle.keys.specs.declared.refusal.Refusal.{Refusal}
 use Rattle.keys.specs.declared.refusal.Refusal.TheVariants.{TooShort, TooWide}
 use Rattle.requests.specs.declared.row.Row.{Row}

@@ -1,5 +1,5 @@
 -- All fields but the last hold.
-use Rattle.std.proofs.Common.{◌≡◌, Some, sym, ap, ◌∙◌}
+use Rattle.std.proofs.Common.{Some, ap, ◌∙◌}
 use Rattle.archive.proofs.RowParts.{answer-none, answer-last}
 use Rattle.archive.proofs.answer_rows.answer_fault.Goals as goal
 

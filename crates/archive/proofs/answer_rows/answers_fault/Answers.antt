@@ -1,7 +1,6 @@
 -- One row more is without a fault, or its fault is told.
-use Rattle.std.proofs.Common.{◌≡◌, ◌+◌, ◌-◌, ◌*◌, ◌≤◌, length, take, drop, sym, ap, ◌∙◌, ap₂, arith}
+use Rattle.std.proofs.Common.{◌+◌, ◌*◌, length, sym, ◌∙◌}
 use Rattle.archive.specs.Format.{request_length, answer_length}
-use Rattle.archive.specs.Checks.{answer_checks, answers_checks, first_fault}
 use Rattle.archive.proofs.RowSteps.{row_fits, answers-found, answers_passed, rest_long, offset_kept}
 use Rattle.archive.proofs.answer_rows.answers_fault.Goals as goal
 

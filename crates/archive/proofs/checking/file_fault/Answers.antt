@@ -1,5 +1,5 @@
 -- The layers' faults one after the other, and that all parts lie within the file.
-use Rattle.std.proofs.Common.{◌≡◌, ◌+◌, ◌-◌, ◌*◌, ◌≤◌, length, arith, rules}
+use Rattle.std.proofs.Common.{◌+◌, ◌*◌, ◌≤◌, length, arith, rules}
 use Rattle.archive.proofs.Reading.{reading_of, requests_cut_long, answers_cut_long, key-same, header_first, requests_first, answers_first}
 use Rattle.archive.proofs.checking.file_fault.Goals as goal
 

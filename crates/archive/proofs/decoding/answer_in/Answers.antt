@@ -1,5 +1,5 @@
 -- A code past the others is a count's.
-use Rattle.std.proofs.Common.{◌≡◌, false, eqb, arith}
+use Rattle.std.proofs.Common.{arith}
 use Rattle.archive.proofs.RowsIn.{tally-given, answer-counted}
 use Rattle.archive.proofs.decoding.answer_in.Goals as goal
 

@@ -1,5 +1,5 @@
 -- A kind past the others is a count.
-use Rattle.std.proofs.Common.{◌≡◌, sym, ap, ◌∙◌, ap₂, arith}
+use Rattle.std.proofs.Common.{sym, ◌∙◌, ap₂, arith}
 use Rattle.std.specs.Option.{option_map, option_zip}
 use Rattle.requests.specs.declared.request.Request.TheVariants.{Count}
 use Rattle.archive.proofs.RowsIn.{request_counted}

@@ -1,5 +1,5 @@
 -- The bytes of a row have its lengths, its station, its request and its answer.
-use Rattle.std.proofs.Common.{◌≡◌, ℕ, ◌+◌, ◌*◌, length, get_or, Some, None, sym, ap, ◌∙◌, arith}
+use Rattle.std.proofs.Common.{◌≡◌, ℕ, length, get_or, Some, None, sym, ap, ◌∙◌, arith}
 use Rattle.archive.specs.Format.{request_length, answer_length}
 use Rattle.archive.proofs.Laws.{KeyLaws, TallyLaws}
 use Rattle.archive.proofs.RowBytes.{request_row_long, answer_row_long}

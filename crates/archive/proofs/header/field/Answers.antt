@@ -1,5 +1,5 @@
 -- The field's four bytes, one by one.
-use Rattle.std.proofs.Common.{◌≡◌, sym, ap, ◌∙◌, arith}
+use Rattle.std.proofs.Common.{sym, ap, ◌∙◌, arith}
 use Rattle.stored.specs.Numerals.{value}
 use Rattle.archive.proofs.Fields.{four-at}
 use Rattle.archive.proofs.header.field.Goals as goal

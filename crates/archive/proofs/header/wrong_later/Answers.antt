@@ -1,5 +1,5 @@
 -- One field more is as it must be, or is told.
-use Rattle.std.proofs.Common.{◌≡◌, ◌+◌, ◌≤◌, true, false, eqb, length, get_or, drop, Some, sym, ap, ◌∙◌, arith, eq-eqb, ne_eqb}
+use Rattle.std.proofs.Common.{◌≡◌, ◌+◌, true, false, eqb, get_or, drop, Some, sym, ap, ◌∙◌, arith, eq-eqb, ne_eqb}
 use Rattle.std.proofs.lemmas.List.{at_drop_more, at_drop_all}
 use Rattle.archive.specs.Checks.{field_at, field_check, field_checks, first_fault}
 use Rattle.archive.proofs.Faults.{first_past, first_told}

@@ -1,5 +1,5 @@
 -- Got as a key is read as one.
-use Rattle.std.proofs.Common.{◌≡◌, is_ok, ap, ◌∙◌, arith}
+use Rattle.std.proofs.Common.{is_ok, ap, ◌∙◌, arith}
 use Rattle.archive.proofs.RowParts.{key-read}
 use Rattle.archive.proofs.request_rows.is_key.Goals as goal
 

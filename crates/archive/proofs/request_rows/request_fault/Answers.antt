@@ -1,5 +1,5 @@
 -- All fields but the last hold.
-use Rattle.std.proofs.Common.{◌≡◌, Some, sym, ap, ◌∙◌, arith}
+use Rattle.std.proofs.Common.{Some, ap, ◌∙◌, arith}
 use Rattle.archive.proofs.RowParts.{request_none, request_last}
 use Rattle.archive.proofs.request_rows.request_fault.Goals as goal
 

@@ -1,7 +1,6 @@
 -- One row more is without a fault, or its fault is told.
-use Rattle.std.proofs.Common.{◌≡◌, ◌+◌, ◌-◌, ◌*◌, ◌≤◌, length, take, drop, sym, ap, ◌∙◌, ap₂, arith}
+use Rattle.std.proofs.Common.{◌+◌, ◌*◌, length, sym, ◌∙◌, arith}
 use Rattle.archive.specs.Format.{request_length}
-use Rattle.archive.specs.Checks.{request_checks, requests_checks, first_fault}
 use Rattle.archive.proofs.RowSteps.{row_fits, requests-found, requests_passed, rest_long, offset_kept}
 use Rattle.archive.proofs.request_rows.requests_fault.Goals as goal
 

@@ -1,5 +1,5 @@
 -- The words written are the fault's.
-use Rattle.std.proofs.Common.{◌≡◌, List, ◌++◌, codes, decimal, ◌∙◌, ap₂}
+use Rattle.std.proofs.Common.{◌++◌, codes, decimal, ◌∙◌, ap₂}
 use Rattle.std.proofs.lemmas.Result.{IfOk-weaker}
 use Rattle.listing.proofs.faults.fault_line.Goals as goal
 

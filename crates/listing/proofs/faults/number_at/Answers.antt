@@ -1,5 +1,5 @@
 -- The four bytes, one by one, where there are four.
-use Rattle.std.proofs.Common.{◌≡◌, ◌+◌, true, false, ltb, length, sym, ap, ◌∙◌, arith, le-ltb, lt-ltb}
+use Rattle.std.proofs.Common.{◌≡◌, ◌+◌, false, ltb, length, sym, ap, ◌∙◌, arith, le-ltb}
 use Rattle.stored.specs.Numerals.{value}
 use Rattle.archive.proofs.Fields.{four-at}
 use Rattle.listing.proofs.faults.number_at.Goals as goal

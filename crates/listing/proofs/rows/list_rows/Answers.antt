@@ -1,5 +1,5 @@
 -- One line more, and the last.
-use Rattle.std.proofs.Common.{◌≡◌, string_bytes, sym, ◌∙◌, arith}
+use Rattle.std.proofs.Common.{string_bytes, ◌∙◌, arith}
 use Rattle.listing.proofs.Lines.{line_more, lines_all}
 use Rattle.listing.proofs.rows.list_rows.Goals as goal
 

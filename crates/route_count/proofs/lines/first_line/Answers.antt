@@ -1,5 +1,5 @@
 -- No line, one alone, or one before others.
-use Rattle.std.proofs.Common.{◌≡◌, ◌<◌, length, ap, ◌∙◌, arith}
+use Rattle.std.proofs.Common.{◌<◌, length, arith}
 use Rattle.std.proofs.lemmas.List.{length-take, length-drop}
 use Rattle.route_count.proofs.Fronts.{no_line, last_line, first_line}
 use Rattle.route_count.proofs.lines.first_line.Goals as goal

@@ -1,5 +1,5 @@
 -- The number written is the refusal's.
-use Rattle.std.proofs.Common.{◌≡◌, ◌++◌, codes, decimal, ap, ◌∙◌}
+use Rattle.std.proofs.Common.{◌++◌, codes, decimal, ap, ◌∙◌}
 use Rattle.std.proofs.lemmas.Result.{IfOk-weaker}
 use Rattle.route_count.specs.Reports.{newline}
 use Rattle.route_count.proofs.reports.refused_line.Goals as goal

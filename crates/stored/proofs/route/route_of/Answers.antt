@@ -1,5 +1,5 @@
 -- Five bytes make a route where their class is one and their numbers are signals.
-use Rattle.std.proofs.Common.{◌≡◌, Err, sym, ◌∙◌, ap₂, arith}
+use Rattle.std.proofs.Common.{◌∙◌, ap₂, arith}
 use Rattle.keys.specs.Routes.{route_of}
 use Rattle.stored.specs.RouteBytesLemmas.{route_read-class, route_read-none}
 use Rattle.stored.proofs.route.route_of.Goals as goal

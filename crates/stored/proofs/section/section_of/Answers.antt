@@ -1,7 +1,6 @@
 -- The section made of the bytes is theirs if it has these bytes.
-use Rattle.std.proofs.Common.{◌≡◌, Some, sym, ap, ◌∙◌, true≢false}
+use Rattle.std.proofs.Common.{sym, ap, ◌∙◌, true≢false}
 use Rattle.std.proofs.lemmas.Slice.Eq.{slice_eq-Decides}
-use Rattle.keys.specs.Sections.{section_made}
 use Rattle.stored.specs.Forms.{in_range}
 use Rattle.stored.specs.SectionBytesLemmas.{section_read_kept, section_read_lost}
 use Rattle.stored.proofs.section.section_of.Goals as goal

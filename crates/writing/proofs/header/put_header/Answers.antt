@@ -1,5 +1,5 @@
 -- One field more.
-use Rattle.std.proofs.Common.{◌≡◌, ◌*◌, ◌<◌, ◌≤◌, length, ap, ◌∙◌, arith}
+use Rattle.std.proofs.Common.{◌≡◌, length, ap, ◌∙◌, arith}
 use Rattle.writing.proofs.HeaderPut.{field_put}
 use Rattle.writing.proofs.header.put_header.Goals as goal
 

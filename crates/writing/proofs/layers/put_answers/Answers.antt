@@ -1,5 +1,5 @@
 -- One row more.
-use Rattle.std.proofs.Common.{◌≡◌, ◌+◌, ◌*◌, length, sym, ap, ◌∙◌, arith}
+use Rattle.std.proofs.Common.{◌≡◌, ◌+◌, length, ◌∙◌, arith}
 use Rattle.requests.specs.declared.row.Row.{Row}
 use Rattle.archive.specs.Format.{answer_row}
 use Rattle.archive.proofs.Laws.{TallyLaws}

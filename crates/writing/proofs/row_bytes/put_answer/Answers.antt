@@ -1,6 +1,6 @@
 -- Code and three zeros in front of the tally.
-use Rattle.std.proofs.Common.{◌≡◌, ℕ, ◌+◌, List, ◌∷◌, length, set, sym, refl, ap, ◌∙◌, ap₂, arith}
-use Rattle.archive.specs.Format.{zeros, tally_field, code_of, answer_length}
+use Rattle.std.proofs.Common.{◌≡◌, ◌∷◌, length, set, ap, ◌∙◌, ap₂}
+use Rattle.archive.specs.Format.{zeros, tally_field, code_of}
 use Rattle.writing.proofs.RowsPut.{four_first, behind-four, put-behind-four}
 use Rattle.writing.proofs.row_bytes.put_answer.Goals as goal
 

@@ -1,8 +1,8 @@
 -- Kind, station and two zeros in front of the keys.
-use Rattle.std.proofs.Common.{◌≡◌, ℕ, ◌+◌, ◌*◌, List, ◌∷◌, length, set, sym, refl, ap, ◌∙◌, ap₂, arith}
+use Rattle.std.proofs.Common.{◌≡◌, ◌*◌, ◌∷◌, length, set, ap, ◌∙◌, ap₂}
 use Rattle.requests.specs.Kinds.{kind_number}
 use Rattle.requests.specs.Requests.{kind_of}
-use Rattle.archive.specs.Format.{zeros, key_fields, request_length}
+use Rattle.archive.specs.Format.{zeros, key_fields}
 use Rattle.writing.proofs.RowsPut.{four_first, behind-four, put-behind-four}
 use Rattle.writing.proofs.row_bytes.put_request.Goals as goal
 

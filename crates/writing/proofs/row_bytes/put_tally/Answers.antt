@@ -1,5 +1,5 @@
 -- The tally over zeros.
-use Rattle.std.proofs.Common.{◌≡◌, ◌-◌, List, [], ◌++◌, Some, sym, ap, ◌∙◌, arith}
+use Rattle.std.proofs.Common.{◌≡◌, ◌-◌, ◌++◌, Some, sym, ap, ◌∙◌, arith}
 use Rattle.std.proofs.lemmas.List.{append-nil}
 use Rattle.archive.specs.Format.{tally_field, zeros}
 use Rattle.writing.proofs.RowsPut.{put_front}

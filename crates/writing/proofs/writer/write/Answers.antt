@@ -1,5 +1,5 @@
 -- Too few bytes are told and left; else the file stands in front.
-use Rattle.std.proofs.Common.{◌≡◌, sym, refl, true≢false, arith}
+use Rattle.std.proofs.Common.{refl, true≢false}
 use Rattle.archive.proofs.Laws.{KeyLaws, TallyLaws}
 use Rattle.writing.proofs.FilePut.{short-answer, short-after, whole-answer, whole-after}
 use Rattle.writing.proofs.writer.write.Goals as goal

@@ -1,5 +1,5 @@
 -- A number that is given has its row, and the parts are that row's.
-use Rattle.std.proofs.Common.{◌≡◌, ℕ, ◌+◌, ◌-◌, ◌*◌, ◌≤◌, length, Some, None, Ok, sym, refl, ap, ◌∙◌, ap₂, mul-le-mul, arith}
+use Rattle.std.proofs.Common.{◌≡◌, ℕ, ◌+◌, ◌-◌, ◌*◌, ◌≤◌, Some, None, Ok, sym, refl, ap, ◌∙◌, ap₂, mul-le-mul, arith}
 use Rattle.std.specs.Option.{option_map}
 use Rattle.stored.specs.Forms.{width_of}
 use Rattle.archive.specs.Format.{request_row, answer_row}

@@ -1,5 +1,5 @@
 -- One byte of the name more, one zero less.
-use Rattle.std.proofs.Common.{◌≡◌, length, get_or, set, replicate, ap, ◌∙◌, arith, take_all}
+use Rattle.std.proofs.Common.{get_or, set, ap, ◌∙◌, arith}
 use Rattle.keys.specs.NamesLemmas.{fill_more, fill_all}
 use Rattle.keys.proofs.section.calls.fill.Goals as goal
 

@@ -1,5 +1,5 @@
 -- A name is text.
-use Rattle.std.proofs.Common.{◌≡◌, IsUtf8, sym, ◌∙◌, subst}
+use Rattle.std.proofs.Common.{IsUtf8, sym, ◌∙◌, subst}
 use Rattle.std.proofs.lemmas.Result.{IfOk-weaker}
 use Rattle.printing.proofs.Texts.{name_utf8}
 use Rattle.printing.proofs.keys_text.SectionPrintedKey.print.Goals as goal

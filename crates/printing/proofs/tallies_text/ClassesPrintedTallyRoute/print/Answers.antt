@@ -1,5 +1,5 @@
 -- The numbers written are the counts.
-use Rattle.std.proofs.Common.{◌≡◌, ℕ, List, ◌++◌, codes, decimal, ◌∙◌}
+use Rattle.std.proofs.Common.{◌≡◌, ℕ, ◌++◌, codes, decimal, ◌∙◌}
 use Rattle.std.proofs.lemmas.Result.{IfOk-weaker}
 use Rattle.printing.proofs.tallies_text.ClassesPrintedTallyRoute.print.Goals as goal
 

@@ -1,5 +1,5 @@
 -- Both parts in turn.
-use Rattle.std.proofs.Common.{◌≡◌, List, ◌++◌, codes, ◌∙◌, ap₂}
+use Rattle.std.proofs.Common.{◌++◌, codes, ◌∙◌, ap₂}
 use Rattle.std.proofs.lemmas.Result.{IfOk-weaker}
 use Rattle.printing.proofs.tallies_text.PairPrintedTally.print.Goals as goal
 

@@ -1,5 +1,5 @@
 -- The first eight bytes, one by one.
-use Rattle.std.proofs.Common.{◌≡◌, ◌≤◌, false, ltb, length, sym, ap, ◌∙◌, arith}
+use Rattle.std.proofs.Common.{◌≤◌, length, sym, ap, ◌∙◌, arith}
 use Rattle.stored.specs.Forms.{in_range}
 use Rattle.stored.specs.SectionBytes.{section_read}
 use Rattle.stored.specs.Puts.{checked_through}

@@ -1,5 +1,5 @@
 -- The first bytes that differ decide; without such, the bytes are the same.
-use Rattle.std.proofs.Common.{◌≡◌, ◌<◌, ◌≤◌, Bool, length, sym, ◌∙◌, arith}
+use Rattle.std.proofs.Common.{sym, ◌∙◌, arith}
 use Rattle.keys.specs.OrdersLemmas.{by_first_differ, by_first-same}
 use Rattle.keys.specs.Texts.{text_more, text_end}
 use Rattle.keys.specs.SectionsLemmas.{section_long, section-bytes-le}

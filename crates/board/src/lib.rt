@@ -1,4 +1,6 @@
 // The board that a register works on: its cells, its gate and its desks, read and changed one thing at a time.
+#![tactic(auto)]
+
 mod board;
 mod desks;
 mod met;

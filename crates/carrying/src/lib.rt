@@ -1,4 +1,6 @@
 // What a carry does by the station's note.
+#![tactic(auto)]
+
 mod carry;
 mod slots;
 

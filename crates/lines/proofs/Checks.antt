@@ -12,7 +12,7 @@ use Rattle.words.specs.declared.routes.RouteWords.{RouteWords}
 use Rattle.lines.specs.declared.call.Call.{Call}
 use Rattle.lines.specs.declared.call.Call.TheVariants.{Submit, Follow, Carry, Collect}
 use Rattle.lines.specs.Grammar.{Form}
-use Rattle.lines.specs.Meaning.{route_in_range, request_in_range, OutOfRange, route_plain, request_plain, call_plain}
+use Rattle.lines.specs.Meaning.{route_in_range, request_in_range, IsOutOfRange, route_plain, request_plain, call_plain}
 use Rattle.lines.specs.Readings.{route_checked, with_checked, both_checked, request_checked, form_checked}
 
 signal_kept : (n : ℕ) → is_signal n ≡ true → nearest_signal n ≡ n
@@ -60,9 +60,9 @@ request_says (Withdraw w) = under route_plain RouteOut request_plain RequestOut 
 request_says (LookUp w) = under route_plain RouteOut request_plain RequestOut LookUp LookUp w (λ y. refl) (λ o. o) (route_checked w) (route-says w)
 request_says (Count lo hi) = ends_say lo hi (route_checked lo) (route_checked hi) (route-says lo) (route-says hi)
 
-pub form-says : (f : Form) → Checked call_plain OutOfRange f (form_checked f)
+pub form-says : (f : Form) → Checked call_plain IsOutOfRange f (form_checked f)
 form-says (Submit n r) =
-    under request_plain RequestOut call_plain OutOfRange (λ q. Submit n q) (λ q. Submit n q) r (λ y. refl) (λ o. o) (request_checked r) (request_says r)
+    under request_plain RequestOut call_plain IsOutOfRange (λ q. Submit n q) (λ q. Submit n q) r (λ y. refl) (λ o. o) (request_checked r) (request_says r)
 form-says (Follow n t) = refl
 form-says (Carry n) = refl
 form-says (Collect n) = refl

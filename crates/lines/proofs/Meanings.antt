@@ -11,7 +11,7 @@ use Rattle.lines.specs.declared.call.Call.{Call}
 use Rattle.lines.specs.declared.call.Call.TheVariants.{Submit, Follow, Carry, Collect}
 use Rattle.lines.specs.Forms.{row_form}
 use Rattle.lines.specs.Grammar.{Form, ShortRoute, ShortRequest, ShortForm, spaced, line_row, line_text}
-use Rattle.lines.specs.Meaning.{Written, Outside, Reads, OutOfRange, route_plain, request_plain, call_plain, EveryCallHasALine, OneForm}
+use Rattle.lines.specs.Meaning.{Written, Outside, Reads, IsOutOfRange, route_plain, request_plain, call_plain, EveryCallHasALine, OneForm}
 use Rattle.lines.specs.Readings.{form_checked, form_call, line_call}
 use Rattle.lines.proofs.Checks.{Checked, form-says, call_back}
 use Rattle.lines.proofs.Rows.{form_are, form_back}
@@ -31,7 +31,7 @@ written-form line f w =
 written-short : (line : List ℕ) (f : Form) → Written line f → length line ≤ 64
 written-short line f w = let s = text-short f w.short in let e = ap length w.text in omega arith
 
-reads-checked : (line : List ℕ) (f : Form) → Written line f → (r : Result (Call Route) Refusal) → Checked call_plain OutOfRange f r → Reads line r
+reads-checked : (line : List ℕ) (f : Form) → Written line f → (r : Result (Call Route) Refusal) → Checked call_plain IsOutOfRange f r → Reads line r
 reads-checked line f w (Ok c) h = subst (Written line) (sym h) w
 reads-checked line f w (Err e) h = inl (h.0, record { form = f; written = w; outside = h.1 })
 

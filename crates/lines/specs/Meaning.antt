@@ -29,17 +29,17 @@ request_in_range (LookUp w) = route_in_range w
 request_in_range (Count lo hi) = route_in_range lo && route_in_range hi
 
 -- the form is a submit, and a number of its route or routes is no signal
-abbrev pub OutOfRange : Form → Type 0
-OutOfRange (Submit station request) = request_in_range request ≡ false
-OutOfRange (Follow station request) = ⊥
-OutOfRange (Carry station) = ⊥
-OutOfRange (Collect station) = ⊥
+abbrev pub IsOutOfRange : Form → Type 0
+IsOutOfRange (Submit station request) = request_in_range request ≡ false
+IsOutOfRange (Follow station request) = ⊥
+IsOutOfRange (Carry station) = ⊥
+IsOutOfRange (Collect station) = ⊥
 
 -- the line is the text of a form that is out of range
 pub record Outside (line : List ℕ) : Type 0 where
   pub form : Form
   pub written : Written line form
-  pub outside : OutOfRange form
+  pub outside : IsOutOfRange form
 
 -- a route, a request and a call as a line has them
 abbrev pub route_plain : Route → RouteWords

@@ -1,4 +1,6 @@
 // Reading a line of the console: the call that it means, or why it means none.
+#![tactic(auto)]
+
 mod call;
 mod forms;
 mod ranges;

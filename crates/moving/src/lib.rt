@@ -1,4 +1,6 @@
 // Requests moved: what an enter, a withdraw, a look-up and a count do at a place whose queue they head.
+#![tactic(auto)]
+
 mod counting;
 mod heads;
 mod scalars;

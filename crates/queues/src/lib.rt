@@ -1,4 +1,6 @@
 // The queues of a board that keeps no lists: who heads each, how, and what the last word on a key is.
+#![tactic(auto)]
+
 mod chosen;
 mod finishing;
 mod heads;

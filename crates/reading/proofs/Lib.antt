@@ -5,4 +5,3 @@ pub mod Steps
 pub mod Rows
 pub mod Shown
 pub mod Promised
-pub mod Sounds

@@ -1,4 +1,6 @@
 // Reading the keys off a row of cells, without recursion: a walk keeps its way down in a lent work row.
+#![tactic(auto)]
+
 mod keys_off;
 mod slots;
 mod walk;

@@ -3,8 +3,8 @@ use Rattle.std.proofs.Common.{Some, None, ◌∙◌, arith}
 use Rattle.lines.proofs.Meanings.{reads-answer, short_call, long_call}
 use Rattle.lines.proofs.reading.read_line.Goals as goal
 
-pub returns-then-line-gt-LONGEST-LINE : goal.returns-then-line-gt-LONGEST-LINE
-returns-then-line-gt-LONGEST-LINE c =
+pub returns-then-line-gt-LONGEST_LINE : goal.returns-then-line-gt-LONGEST_LINE
+returns-then-line-gt-LONGEST_LINE c =
     let line = c.args.line.now in
     let e = long_call line (omega arith) in
     record { answer = e; meaning = reads-answer line _ e }

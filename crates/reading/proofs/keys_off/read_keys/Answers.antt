@@ -11,14 +11,14 @@ returns-then-work-count g c = record {
   kept = λ e is. refl;
 }
 
-pub read-live-requires : goal.read-live-requires
-read-live-requires g c = omega (arith, ap length c.live-cells.ensures, length-take c.args.count c.args.cells.now)
+pub read_live-requires : goal.read_live-requires
+read_live-requires g c = omega (arith, ap length c.live_cells.ensures, length-take c.args.count c.args.cells.now)
 
 pub returns : goal.returns
 returns g c = record {
-  answer = λ desks r. read_answer g.K.Key g.T.Tally c.args.cells.now c.args.count c.args.gate desks c.args.row.now (length c.args.work.now) r c.live-cells.result.now c.live-cells.ensures c.if-work-count.false c.read-live.result c.read-live.ensures.answer;
-  after = λ desks r. read-after g.K.Key g.T.Tally c.args.cells.now c.args.count c.args.gate desks c.args.row.now (length c.args.work.now) r c.live-cells.result.now c.live-cells.ensures c.if-work-count.false c.read-live.new.row c.read-live.ensures.after;
+  answer = λ desks r. read_answer g.K.Key g.T.Tally c.args.cells.now c.args.count c.args.gate desks c.args.row.now (length c.args.work.now) r c.live_cells.result.now c.live_cells.ensures c.if-work-count.false c.read_live.result c.read_live.ensures.answer;
+  after = λ desks r. read-after g.K.Key g.T.Tally c.args.cells.now c.args.count c.args.gate desks c.args.row.now (length c.args.work.now) r c.live_cells.result.now c.live_cells.ensures c.if-work-count.false c.read_live.new.row c.read_live.ensures.after;
   kept = λ e is.
-      c.read-live.ensures.after
-      ∙ sym (over_past (λ f. g.K.Key.parts (g.K.Key.made f)) (firsts_under c.live-cells.result.now c.args.gate) c.args.row.now e (sym is ∙ c.read-live.ensures.answer));
+      c.read_live.ensures.after
+      ∙ sym (over_past (λ f. g.K.Key.parts (g.K.Key.made f)) (firsts_under c.live_cells.result.now c.args.gate) c.args.row.now e (sym is ∙ c.read_live.ensures.answer));
 }

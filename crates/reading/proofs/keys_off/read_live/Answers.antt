@@ -4,16 +4,16 @@ use Rattle.reading.specs.Walks.{firsts_under}
 use Rattle.reading.proofs.Promised.{count_room, over_fits, over_past}
 use Rattle.reading.proofs.keys_off.read_live.Goals as goal
 
-pub write-keys-requires : goal.write-keys-requires
-write-keys-requires g c = (
-  omega (arith, c.count-keys.auto.work),
+pub write_keys-requires : goal.write_keys-requires
+write_keys-requires g c = (
+  omega (arith, c.count_keys.auto.work),
   count_room (length c.args.row.now) (length (firsts_under c.args.live.now c.args.gate)) c.in-Ok.counted c.in-Ok.ensures,
 )
 
 pub returns-in-Ok : goal.returns-in-Ok
 returns-in-Ok g c = record {
   answer = c.in-Ok.ensures;
-  after = c.write-keys.ensures ∙ over_fits (λ f. g.K.Key.parts (g.K.Key.made f)) (firsts_under c.args.live.now c.args.gate) c.args.row.now c.in-Ok.counted c.in-Ok.ensures;
+  after = c.write_keys.ensures ∙ over_fits (λ f. g.K.Key.parts (g.K.Key.made f)) (firsts_under c.args.live.now c.args.gate) c.args.row.now c.in-Ok.counted c.in-Ok.ensures;
 }
 
 pub returns-in-Err : goal.returns-in-Err

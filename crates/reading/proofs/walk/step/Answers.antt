@@ -12,13 +12,13 @@ returns-in-Place g c =
     let depth = c.args.walk.depth in
     let p = c.in-Place.p in
     record {
-      visits = down-visits live work depth at c.requires p c.in-Place.is ∙ ap (λ x. at ∷ to_come live (set work depth p) (depth + 1) x) (sym c.slot-of.ensures);
-      stands = subst (λ x. Stands live (set work depth p) (depth + 1) x) (sym c.slot-of.ensures) (down-stands live work depth at c.requires p c.in-Place.is);
+      visits = down-visits live work depth at c.requires p c.in-Place.is ∙ ap (λ x. at ∷ to_come live (set work depth p) (depth + 1) x) (sym c.slot_of.ensures);
+      stands = subst (λ x. Stands live (set work depth p) (depth + 1) x) (sym c.slot_of.ensures) (down-stands live work depth at c.requires p c.in-Place.is);
     }
 
 pub returns-then-walk-eq0 : goal.returns-then-walk-eq0
 returns-then-walk-eq0 g c = record {
-  visits = last_visit c.args.live.now c.args.work.now c.args.walk.depth c.args.walk.at c.requires c.in-default.not-Place c.if-walk-eq0.true;
+  visits = last_visit c.args.live.now c.args.work.now c.args.walk.depth c.args.walk.at c.requires c.in_default.not-Place c.if-walk-eq0.true;
   stands = tt;
 }
 
@@ -30,6 +30,6 @@ returns g c =
     let depth = c.args.walk.depth in
     let some : 0 < depth = let ne = c.if-walk-eq0.false in omega arith in
     record {
-      visits = back_visits live work depth at c.requires c.in-default.not-Place some (get_or work (depth - 1) 0) refl ∙ ap (λ x. at ∷ to_come live work (depth - 1) x) (sym c.slot-of-2.ensures);
-      stands = subst (λ x. Stands live work (depth - 1) x) (sym c.slot-of-2.ensures) (back_stands live work depth at c.requires c.in-default.not-Place some (get_or work (depth - 1) 0) refl);
+      visits = back_visits live work depth at c.requires c.in_default.not-Place some (get_or work (depth - 1) 0) refl ∙ ap (λ x. at ∷ to_come live work (depth - 1) x) (sym c.slot_of-2.ensures);
+      stands = subst (λ x. Stands live work (depth - 1) x) (sym c.slot_of-2.ensures) (back_stands live work depth at c.requires c.in_default.not-Place some (get_or work (depth - 1) 0) refl);
     }

@@ -5,4 +5,4 @@ use Rattle.replies.proofs.placing.put_text.Goals as goal
 
 pub returns : goal.returns
 returns c =
-    puts_part c.args.out.now c.args.at _ c.copy-from-slice.new.self c.args.text.now c.copy-from-slice.ensures.after (omega arith)
+    puts_part c.args.out.now c.args.at _ c.copy_from_slice.new.self c.args.text.now c.copy_from_slice.ensures.after (omega arith)

@@ -5,25 +5,25 @@ use Rattle.replies.proofs.Lengths.{five_digits, code_digit, tally-length}
 use Rattle.replies.proofs.Pasted.{puts_more, puts_same}
 use Rattle.replies.proofs.writing.put_collected.Goals as goal
 
-pub put-named-at-requires : goal.put-named-at-requires
-put-named-at-requires c = let number = five_digits c.args.number (omega arith) in omega arith
+pub put_named-at-requires : goal.put_named-at-requires
+put_named-at-requires c = let number = five_digits c.args.number (omega arith) in omega arith
 
-pub put-named-behind-requires : goal.put-named-behind-requires
-put-named-behind-requires c =
+pub put_named-behind-requires : goal.put_named-behind-requires
+put_named-behind-requires c =
     let number = five_digits c.args.number (omega arith) in
     let code = code_digit c.args.told.now in
     let same = ap (λ n. length (decimal n)) c.code.ensures in
-    let at = c.put-named-at.ensures.position in
+    let at = c.put_named-at.ensures.position in
     omega arith
 
-pub put-tally-requires : goal.put-tally-requires
-put-tally-requires c =
+pub put_tally-requires : goal.put_tally-requires
+put_tally-requires c =
     let number = five_digits c.args.number (omega arith) in
     let code = code_digit c.args.told.now in
     let same = ap (λ n. length (decimal n)) c.code.ensures in
     let tally = tally-length c.args.told.now in
-    let at = c.put-named-at.ensures.position in
-    let behind = c.put-named-behind.ensures.position in
+    let at = c.put_named-at.ensures.position in
+    let behind = c.put_named-behind.ensures.position in
     omega arith
 
 pub returns : goal.returns
@@ -32,8 +32,8 @@ returns c =
     let code = code_digit c.args.told.now in
     let same = ap (λ n. length (decimal n)) c.code.ensures in
     let tally = tally-length c.args.told.now in
-    let at = c.put-named-at.ensures.position in
-    let behind = c.put-named-behind.ensures.position in
-    let end = c.put-tally.ensures.position in
-    let answer = puts_same (ap (named (codes " answer ")) c.code.ensures) c.put-named-behind.ensures in
-    record { text = puts_more c.put-named-at.ensures (puts_more answer c.put-tally.ensures (omega arith)) (omega arith); bound = omega arith }
+    let at = c.put_named-at.ensures.position in
+    let behind = c.put_named-behind.ensures.position in
+    let end = c.put_tally.ensures.position in
+    let answer = puts_same (ap (named (codes " answer ")) c.code.ensures) c.put_named-behind.ensures in
+    record { text = puts_more c.put_named-at.ensures (puts_more answer c.put_tally.ensures (omega arith)) (omega arith); bound = omega arith }

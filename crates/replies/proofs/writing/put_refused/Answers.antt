@@ -5,8 +5,8 @@ use Rattle.replies.proofs.Lengths.{refusal_digits}
 use Rattle.replies.proofs.Pasted.{puts_same}
 use Rattle.replies.proofs.writing.put_refused.Goals as goal
 
-pub put-named-requires : goal.put-named-requires
-put-named-requires c =
+pub put_named-requires : goal.put_named-requires
+put_named-requires c =
     let digits = refusal_digits c.args.refusal in
     let same = ap (λ n. length (decimal n)) c.number.ensures in
     omega arith
@@ -15,5 +15,5 @@ pub returns : goal.returns
 returns c =
     let digits = refusal_digits c.args.refusal in
     let same = ap (λ n. length (decimal n)) c.number.ensures in
-    let behind = c.put-named.ensures.position in
-    record { text = puts_same (ap (named (codes "refused ")) c.number.ensures) c.put-named.ensures; bound = omega arith }
+    let behind = c.put_named.ensures.position in
+    record { text = puts_same (ap (named (codes "refused ")) c.number.ensures) c.put_named.ensures; bound = omega arith }

@@ -8,10 +8,10 @@ pub returns : goal.returns
 returns c =
     let reply = c.args.reply.now in
     let row = c.args.out.now in
-    let text = puts_more c.put-words-at.ensures.text c.put-byte.ensures (omega arith) in
-    let behind = c.put-byte.ensures.position in
+    let text = puts_more c.put_words-at.ensures.text c.put_byte.ensures (omega arith) in
+    let behind = c.put_byte.ensures.position in
     record {
-      answer = front_answer reply row c.put-byte.new.out c.put-byte.result (omega arith) text;
-      after = front_after reply row c.put-byte.new.out c.put-byte.result (omega arith) text;
+      answer = front_answer reply row c.put_byte.new.out c.put_byte.result (omega arith) text;
+      after = front_after reply row c.put_byte.new.out c.put_byte.result (omega arith) text;
       bound = omega arith;
     }

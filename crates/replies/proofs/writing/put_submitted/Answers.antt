@@ -3,11 +3,11 @@ use Rattle.std.proofs.Common.{arith}
 use Rattle.replies.proofs.Lengths.{five_digits}
 use Rattle.replies.proofs.writing.put_submitted.Goals as goal
 
-pub put-named-requires : goal.put-named-requires
-put-named-requires c = let number = five_digits c.args.number (omega arith) in omega arith
+pub put_named-requires : goal.put_named-requires
+put_named-requires c = let number = five_digits c.args.number (omega arith) in omega arith
 
 pub returns : goal.returns
 returns c =
     let number = five_digits c.args.number (omega arith) in
-    let behind = c.put-named.ensures.position in
-    record { text = c.put-named.ensures; bound = omega arith }
+    let behind = c.put_named.ensures.position in
+    record { text = c.put_named.ensures; bound = omega arith }

@@ -1,5 +1,5 @@
 -- A board with one cell written: which state it then shows. Rests on Parts.
-use Rattle.std.proofs.Common.{◌≡◌, ℕ, zero, suc, ◌-◌, ◌<◌, ◌≤◌, List, [], ◌∷◌, map, length, take, set, Some, None, Option, sym, refl, ap, ◌∙◌, subst, arith, length-set}
+use Rattle.std.proofs.Common.{◌≡◌, ℕ, zero, suc, ◌-◌, ◌<◌, ◌≤◌, List, [], ◌∷◌, length, take, set, Some, None, Option, sym, refl, ap, ◌∙◌, arith, length-set}
 use Rattle.std.specs.Option.{option_map}
 use Rattle.keys.specs.declared.key.Key as key
 use Rattle.tallies.specs.declared.tally.Tally as tally
@@ -27,7 +27,7 @@ front_bound (suc n) (y ∷ ys) zero x e = omega arith
 front_bound (suc n) (y ∷ ys) (suc i) x e = let ih = front_bound n ys i x e in omega arith
 
 module _ {K F T : Type 0} (k : key.Ghosts K F) (t : tally.Ghosts T K F) where
-  pub rewritten_state : (b b' : Board K T F) (row : List (Cell F T)) → Rewritten b b' row → board_state k t b' ≡ state_shown k t row b.count b.gate b.desks
+  pub rewritten_state : (b b' : Board K T F k t) (row : List (Cell F T)) → Rewritten b b' row → board_state k t b' ≡ state_shown k t row b.count b.gate b.desks
   rewritten_state b b' row r =
       ap (λ v. state_shown k t v b'.count b'.gate b'.desks) r.cells
       ∙ ap (λ v. state_shown k t row v b'.gate b'.desks) r.count
@@ -35,11 +35,11 @@ module _ {K F T : Type 0} (k : key.Ghosts K F) (t : tally.Ghosts T K F) where
       ∙ ap (state_shown k t row b.count b.gate) r.desks
 
   -- a number that is given, or that names a key, is at most the count
-  pub live_bound : (b : Board K T F) (number : ℕ) (c : Cell F T) → numbered (live b) number ≡ Some c → number ≤ b.count
+  pub live_bound : (b : Board K T F k t) (number : ℕ) (c : Cell F T) → numbered (live b) number ≡ Some c → number ≤ b.count
   live_bound b zero c e = omega arith
   live_bound b (suc i) c e = let h = front_bound b.count b.cells.now i c e in omega arith
 
-  pub key_bound : (b : Board K T F) (number : ℕ) (v : K) → key_of k t b number ≡ Some v → number ≤ b.count
+  pub key_bound : (b : Board K T F k t) (number : ℕ) (v : K) → key_of k t b number ≡ Some v → number ≤ b.count
   key_bound b number v e = go (numbered (live b) number) refl e
     where
       go : (o : Option (Cell F T)) → numbered (live b) number ≡ o → option_map (λ (x : Cell F T). k.made x.first) o ≡ Some v → number ≤ b.count
@@ -47,13 +47,13 @@ module _ {K F T : Type 0} (k : key.Ghosts K F) (t : tally.Ghosts T K F) where
       go (Some c) at is = live_bound b number c at
 
   -- no such request: nothing is written
-  pub not-given : (b : Board K T F) (number : ℕ) (s' : State K T) → numbered (live b) number ≡ None → board_state k t b ≡ if_given (board_state k t b) number s'
+  pub not-given : (b : Board K T F k t) (number : ℕ) (s' : State K T) → numbered (live b) number ≡ None → board_state k t b ≡ if_given (board_state k t b) number s'
   not-given b number s' e = ap (λ o. elim o as (λ _. State K T) [ None ↦ board_state k t b | Some r ↦ s' ]) (row_none (request_in k t) (live b) number e)
 
-  pub is_given : (b : Board K T F) (number : ℕ) (c : Cell F T) (s' : State K T) → numbered (live b) number ≡ Some c → s' ≡ if_given (board_state k t b) number s'
+  pub is_given : (b : Board K T F k t) (number : ℕ) (c : Cell F T) (s' : State K T) → numbered (live b) number ≡ Some c → s' ≡ if_given (board_state k t b) number s'
   is_given b number c s' e = ap (λ o. elim o as (λ _. State K T) [ None ↦ board_state k t b | Some r ↦ s' ]) (row_some (request_in k t) (live b) number c e)
 
-  module _ (b b' : Board K T F) (number : ℕ) (c cell : Cell F T) (e : numbered (live b) number ≡ Some c) (r : Rewritten b b' (written_at b number cell)) where
+  module _ (b b' : Board K T F k t) (number : ℕ) (c cell : Cell F T) (e : numbered (live b) number ≡ Some c) (r : Rewritten b b' (written_at b number cell)) where
     written : written_at b number cell ≡ set b.cells.now (number - 1) cell
     written = ap (λ o. elim o as (λ _. List (Cell F T)) [ None ↦ b.cells.now | Some x ↦ set b.cells.now (number - 1) cell ]) e
 

@@ -1,10 +1,9 @@
 -- The desk of a station, read and written. Rests on Parts.
-use Rattle.std.proofs.Common.{◌≡◌, ℕ, zero, suc, ◌-◌, ◌<◌, ◌≤◌, List, length, get_or, set, Some, None, Option, sym, refl, ap, ◌∙◌, ap₂, arith}
+use Rattle.std.proofs.Common.{◌≡◌, ℕ, zero, suc, ◌-◌, ◌<◌, ◌≤◌, List, length, get_or, set, Some, None, refl, ap, ◌∙◌, arith}
 use Rattle.keys.specs.declared.key.Key as key
 use Rattle.tallies.specs.declared.tally.Tally as tally
-use Rattle.rules.specs.declared.note.Note.{Note}
 use Rattle.rules.specs.declared.note.Note.TheVariants as note
-use Rattle.rules.specs.Changes.{put, with_desk}
+use Rattle.rules.specs.Changes.{with_desk}
 use Rattle.rules.specs.Queues.{numbered}
 use Rattle.rules.specs.States as rules
 use Rattle.cells.specs.declared.cell.Cell.{Cell}

@@ -1,5 +1,5 @@
 -- Cells written so that they name only requests that were submitted. Assumes nothing.
-use Rattle.std.proofs.Common.{◌≡◌, ℕ, zero, suc, ◌≤◌, true, List, [], ◌∷◌, ◌++◌, set, Some, None, sym, refl, ap, ◌∙◌, subst, arith}
+use Rattle.std.proofs.Common.{◌≡◌, ℕ, zero, suc, true, List, [], ◌∷◌, ◌++◌, set, Some, subst, arith}
 use mathlib.Core.HLevel.{Unit-prop, ×_prop, ×₃_prop}
 use native.Mathlib.Bridge.{le_prop}
 use Rattle.rules.specs.Queues.{numbered}

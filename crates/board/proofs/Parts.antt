@@ -1,6 +1,5 @@
 -- Parts of the cell of a number: what is read there. Assumes nothing.
 use Rattle.std.proofs.Common.{◌≡◌, ℕ, zero, suc, ◌-◌, ◌<◌, ◌≤◌, List, [], ◌∷◌, map, length, get_or, take, Some, None, Option, sym, refl, ap, ◌∙◌, arith, length-take-le}
-use lib.ListN.{length-map}
 use Rattle.std.specs.Option.{option_map}
 use Rattle.rules.specs.Queues.{numbered}
 use Rattle.cells.proofs.Numbers.{numbered-map}

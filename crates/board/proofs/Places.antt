@@ -1,12 +1,12 @@
 -- What a cell's place shows, and what a write of it makes of the state. Rests on Boards.
-use Rattle.std.proofs.Common.{◌≡◌, ℕ, zero, suc, ◌<◌, ◌≤◌, Bool, true, false, cond, not, List, map, length, take, set, Some, None, Option, sym, refl, ap, ◌∙◌, ap₂, true≢false, arith, length-take-le}
+use Rattle.std.proofs.Common.{◌≡◌, ℕ, zero, suc, ◌<◌, ◌≤◌, Bool, true, false, cond, List, length, set, Some, None, Option, sym, refl, ap, ◌∙◌, arith, length-take-le}
 use lib.ListN.{length-map}
 use Rattle.std.specs.Option.{option_map}
 use Rattle.keys.specs.declared.key.Key as key
 use Rattle.tallies.specs.declared.tally.Tally as tally
-use Rattle.rules.specs.Changes.{put, with_place}
-use Rattle.rules.specs.Kinds.{kinds_of, before, greater, lesser}
-use Rattle.rules.specs.Moves.{Side, on_left, on_right, slot_on, with_slot_on, with_tally, side_of, with_slot_for, with_joined, made_place}
+use Rattle.rules.specs.Changes.{with_place}
+use Rattle.rules.specs.Kinds.{kinds_of, before}
+use Rattle.rules.specs.Moves.{Side, on_left, on_right, with_slot_on, with_tally, side_of, with_slot_for, with_joined, made_place}
 use Rattle.rules.specs.Queues.{numbered, given}
 use Rattle.rules.specs.States.{State, Place}
 use Rattle.rules.specs.States as rules
@@ -15,9 +15,8 @@ use Rattle.cells.specs.declared.slot.Slot.{Slot}
 use Rattle.cells.specs.declared.slot.Slot.TheVariants as slot
 use Rattle.cells.specs.Views.{request_in, key_named, slot_shown, place_shown, state_shown}
 use Rattle.cells.proofs.Singles.{cell_placed, shown-placed, shown_unplaced}
-use Rattle.cells.proofs.Shown.{state_path}
 use Rattle.board.specs.declared.board.Board.{Board}
-use Rattle.board.specs.Cells.{live, key_of, slot_of, left_of, right_of, tally_of, names}
+use Rattle.board.specs.Cells.{live, key_of, slot_of, left_of, right_of, tally_of}
 use Rattle.board.specs.Made.{made_after}
 use Rattle.board.specs.Of.{board_state}
 use Rattle.board.specs.Written.{Rewritten, written_at}
@@ -57,7 +56,7 @@ module _ {K F T : Type 0} (k : key.Ghosts K F) (t : tally.Ghosts T K F) where
       go true is = (is, split-made cells c is ∙ e)
       go false is = absurd (let z : None ≡ Some s = sym (ap (option_map (λ (f : Place K T). f.split)) (place-unmade cells c is)) ∙ e in let y : ◌≡◌ {A = ℕ} 0 1 = cc in omega arith)
 
-  module _ (b : Board K T F) where
+  module _ (b : Board K T F k t) where
     pub place_at : (p : ℕ) (c : Cell F T) → numbered (live b) p ≡ Some c → (board_state k t b).place p ≡ place_shown k t (live b) c
     place_at p c e = ap (λ o. elim o as (λ _. Option (Place K T)) [ None ↦ None | Some x ↦ place_shown k t (live b) x ]) e
 
@@ -72,7 +71,7 @@ module _ {K F T : Type 0} (k : key.Ghosts K F) (t : tally.Ghosts T K F) where
   cell_slotted c on_left x = cell_placed c c.made c.split x c.right c.tally
   cell_slotted c on_right x = cell_placed c c.made c.split c.left x c.tally
 
-  module _ (b b' : Board K T F) (p : ℕ) (c : Cell F T) (room : b.count ≤ length b.cells.now) (e : numbered (live b) p ≡ Some c) where
+  module _ (b b' : Board K T F k t) (p : ℕ) (c : Cell F T) (room : b.count ≤ length b.cells.now) (e : numbered (live b) p ≡ Some c) where
     abbrev s : State K T
     s = board_state k t b
 
@@ -94,8 +93,8 @@ module _ {K F T : Type 0} (k : key.Ghosts K F) (t : tally.Ghosts T K F) where
       where
         on_side : (z : Side) (i : ℕ) → i < b.count → numbered (live b) (suc i) ≡ Some c → (c.made ≡ true) × (key_named k t (live b) c.split ≡ Some v)
             → state_shown k t (set b.cells.now i (cell_slotted c z x)) b.count b.gate b.desks ≡ with_place s (suc i) (with_slot_on (old v) z (slot_of k t b x))
-        on_side on_left i h at made = shown-placed k t b.cells.now b.count b.gate b.desks i c h room at c.made c.split x c.right c.tally (with_slot_on (old v) on_left (slot_of k t b x)) (slotted v on_left x made.0 made.1)
-        on_side on_right i h at made = shown-placed k t b.cells.now b.count b.gate b.desks i c h room at c.made c.split c.left x c.tally (with_slot_on (old v) on_right (slot_of k t b x)) (slotted v on_right x made.0 made.1)
+        on_side on_left i h at made = shown-placed k t b.cells.now b.count b.gate b.desks i c h at c.made c.split x c.right c.tally (with_slot_on (old v) on_left (slot_of k t b x)) (slotted v on_left x made.0 made.1)
+        on_side on_right i h at made = shown-placed k t b.cells.now b.count b.gate b.desks i c h at c.made c.split c.left x c.tally (with_slot_on (old v) on_right (slot_of k t b x)) (slotted v on_right x made.0 made.1)
 
         to_place : (i : ℕ) → p ≡ suc i → s.place p ≡ Some (old v) → with_slot_for (kinds_of k t) s p j (slot_of k t b x) ≡ with_place s (suc i) (with_slot_on (old v) side (slot_of k t b x))
         to_place i n place =
@@ -118,7 +117,7 @@ module _ {K F T : Type 0} (k : key.Ghosts K F) (t : tally.Ghosts T K F) where
         none : (i : ℕ) → i < b.count → numbered (live b) (suc i) ≡ Some c → place_shown k t (live b) c ≡ None → place_shown k t (live b) (joined_cell weight) ≡ None
             → state_shown k t (set b.cells.now i (joined_cell weight)) b.count b.gate b.desks ≡ with_joined (kinds_of k t) s p weight
         none i h at was is =
-            shown_unplaced k t b.cells.now b.count b.gate b.desks i c h room at c.made c.split c.left c.right (t.joined c.tally weight) was is
+            shown_unplaced k t b.cells.now b.count b.gate b.desks i c h at c.made c.split c.left c.right (t.joined c.tally weight) was is
             ∙ sym (by_place None (place_at b p c e ∙ was))
 
         go : (i : ℕ) → p ≡ suc i → i < b.count → numbered (live b) (suc i) ≡ Some c → (m : Bool) → c.made ≡ m → (o : Option K) → key_named k t (live b) c.split ≡ o
@@ -126,7 +125,7 @@ module _ {K F T : Type 0} (k : key.Ghosts K F) (t : tally.Ghosts T K F) where
         go i n h at false made o is = none i h at (place-unmade (live b) c made) (place-unmade (live b) (joined_cell weight) made)
         go i n h at true made None is = none i h at (unnamed_shown (live b) c is) (unnamed_shown (live b) (joined_cell weight) is)
         go i n h at true made (Some v) is =
-            shown-placed k t b.cells.now b.count b.gate b.desks i c h room at c.made c.split c.left c.right (t.joined c.tally weight) (with_tally (old v) (t.joined c.tally weight)) (made-shown (live b) (joined_cell weight) v made is)
+            shown-placed k t b.cells.now b.count b.gate b.desks i c h at c.made c.split c.left c.right (t.joined c.tally weight) (with_tally (old v) (t.joined c.tally weight)) (made-shown (live b) (joined_cell weight) v made is)
             ∙ ap (λ q. with_place s q (with_tally (old v) (t.joined c.tally weight))) (sym n)
             ∙ sym (by_place (Some (old v)) (place_at b p c e ∙ made-shown (live b) c v made is))
 
@@ -134,8 +133,8 @@ module _ {K F T : Type 0} (k : key.Ghosts K F) (t : tally.Ghosts T K F) where
     abbrev own : K
     own = k.made c.first
 
-    own_named : key_of k t b p ≡ Some own
-    own_named = ap (option_map (λ (x : Cell F T). k.made x.first)) e
+    own-named : key_of k t b p ≡ Some own
+    own-named = ap (option_map (λ (x : Cell F T). k.made x.first)) e
 
     key-slot : (i : ℕ) (j : K) → key_of k t b i ≡ Some j → slot_of k t b (slot.Key i) ≡ rules.holds j
     key-slot i j is = ap (λ o. elim o as (λ _. rules.Slot K) [ None ↦ rules.empty | Some v ↦ rules.holds v ]) is
@@ -147,13 +146,13 @@ module _ {K F T : Type 0} (k : key.Ghosts K F) (t : tally.Ghosts T K F) where
     place-made other held is ord le r =
         written_state k t b b' p c (cell_placed c true (cond ord p other) (slot.Key (cond ord other p)) (slot.Key (cond ord p other)) (t.joined (t.weighed held) (t.weighed own))) e r (made_after k t b p other)
         (λ i n h at.
-        shown-placed k t b.cells.now b.count b.gate b.desks i c h room at true (cond ord p other) (slot.Key (cond ord other p)) (slot.Key (cond ord p other)) (t.joined (t.weighed held) (t.weighed own)) (made_place (kinds_of k t) held own) (shape ord le)
+        shown-placed k t b.cells.now b.count b.gate b.desks i c h at true (cond ord p other) (slot.Key (cond ord other p)) (slot.Key (cond ord p other)) (t.joined (t.weighed held) (t.weighed own)) (made_place (kinds_of k t) held own) (shape ord le)
         ∙ ap (λ q. with_place s q (made_place (kinds_of k t) held own)) (sym n)
         ∙ sym after)
       where
         after : made_after k t b p other ≡ with_place s p (made_place (kinds_of k t) held own)
         after =
-            ap (λ o. elim o as (λ _. State K T) [ None ↦ s | Some v ↦ elim (key_of k t b other) as (λ _. State K T) [ None ↦ s | Some j ↦ with_place s p (made_place (kinds_of k t) j v) ] ]) own_named
+            ap (λ o. elim o as (λ _. State K T) [ None ↦ s | Some v ↦ elim (key_of k t b other) as (λ _. State K T) [ None ↦ s | Some j ↦ with_place s p (made_place (kinds_of k t) j v) ] ]) own-named
             ∙ ap (λ o. elim o as (λ _. State K T) [ None ↦ s | Some j ↦ with_place s p (made_place (kinds_of k t) j own) ]) is
 
         same_place : (low high : K) (l r : rules.Slot K) → (split : K) → split ≡ high → l ≡ rules.holds low → r ≡ rules.holds high
@@ -163,26 +162,26 @@ module _ {K F T : Type 0} (k : key.Ghosts K F) (t : tally.Ghosts T K F) where
         shape : (z : Bool) → k.le held own ≡ z
             → place_shown k t (live b) (cell_placed c true (cond z p other) (slot.Key (cond z other p)) (slot.Key (cond z p other)) (t.joined (t.weighed held) (t.weighed own))) ≡ Some (made_place (kinds_of k t) held own)
         shape true u =
-            made-shown (live b) (cell_placed c true p (slot.Key other) (slot.Key p) (t.joined (t.weighed held) (t.weighed own))) own refl own_named
-            ∙ same_place held own (slot_of k t b (slot.Key other)) (slot_of k t b (slot.Key p)) own refl (key-slot other held is) (key-slot p own own_named)
+            made-shown (live b) (cell_placed c true p (slot.Key other) (slot.Key p) (t.joined (t.weighed held) (t.weighed own))) own refl own-named
+            ∙ same_place held own (slot_of k t b (slot.Key other)) (slot_of k t b (slot.Key p)) own refl (key-slot other held is) (key-slot p own own-named)
             ∙ ap (λ z. Some (record { split = cond z own held; left = rules.holds (cond z held own); right = rules.holds (cond z own held); tally = t.joined (t.weighed held) (t.weighed own) })) (sym u)
         shape false u =
             made-shown (live b) (cell_placed c true other (slot.Key p) (slot.Key other) (t.joined (t.weighed held) (t.weighed own))) held refl is
-            ∙ same_place own held (slot_of k t b (slot.Key p)) (slot_of k t b (slot.Key other)) held refl (key-slot p own own_named) (key-slot other held is)
+            ∙ same_place own held (slot_of k t b (slot.Key p)) (slot_of k t b (slot.Key other)) held refl (key-slot p own own-named) (key-slot other held is)
             ∙ ap (λ z. Some (record { split = cond z own held; left = rules.holds (cond z held own); right = rules.holds (cond z own held); tally = t.joined (t.weighed held) (t.weighed own) })) (sym u)
 
   -- the gate's slot is written
-  pub slot-gate : (b : Board K T F) (p : ℕ) (j : K) (x : Slot) → p ≡ 0
+  pub slot-gate : (b : Board K T F k t) (p : ℕ) (j : K) (x : Slot) → p ≡ 0
       → state_shown k t b.cells.now b.count x b.desks ≡ with_slot_for (kinds_of k t) (board_state k t b) p j (slot_of k t b x)
   slot-gate b p j x e = ap (λ q. with_slot_for (kinds_of k t) (board_state k t b) q j (slot_of k t b x)) (sym e)
 
   -- no place, no slot
-  pub slot-none : (b : Board K T F) (p : ℕ) (j : K) (x : Slot) → (p ≡ 0 → ⊥) → (board_state k t b).place p ≡ None → board_state k t b ≡ with_slot_for (kinds_of k t) (board_state k t b) p j (slot_of k t b x)
+  pub slot-none : (b : Board K T F k t) (p : ℕ) (j : K) (x : Slot) → (p ≡ 0 → ⊥) → (board_state k t b).place p ≡ None → board_state k t b ≡ with_slot_for (kinds_of k t) (board_state k t b) p j (slot_of k t b x)
   slot-none b zero j x ne e = absurd (ne refl)
   slot-none b (suc i) j x ne e = ap (λ o. elim o as (λ _. State K T) [ None ↦ board_state k t b | Some f ↦ with_place (board_state k t b) (suc i) (with_slot_on f (side_of (kinds_of k t) f j) (slot_of k t b x)) ]) (sym e)
 
   -- a place with a split, by what its cell holds
-  pub placed : (b : Board K T F) (p : ℕ) (v : K) → option_map (λ (f : Place K T). f.split) ((board_state k t b).place p) ≡ Some v
+  pub placed : (b : Board K T F k t) (p : ℕ) (v : K) → option_map (λ (f : Place K T). f.split) ((board_state k t b).place p) ≡ Some v
       → (board_state k t b).place p ≡ Some (record { split = v; left = slot_of k t b (left_of b p); right = slot_of k t b (right_of b p); tally = tally_of k t b p })
   placed b p v is = go (numbered (live b) p) refl
     where

@@ -1,5 +1,5 @@
 -- The board with a request more shows the state with it. Rests on Boards and Named.
-use Rattle.std.proofs.Common.{◌≡◌, ℕ, zero, suc, ◌+◌, ◌-◌, ◌<◌, ◌≤◌, Bool, true, false, cond, List, [], ◌∷◌, ◌++◌, length, get_or, take, set, Some, None, sym, refl, ap, ◌∙◌, subst, add-one, arith}
+use Rattle.std.proofs.Common.{◌≡◌, ℕ, zero, suc, ◌+◌, ◌-◌, ◌<◌, ◌≤◌, [], ◌∷◌, ◌++◌, length, get_or, take, set, Some, sym, refl, ap, ◌∙◌, subst, add-one, arith}
 use Rattle.std.proofs.lemmas.List.{take_more_set}
 use Rattle.keys.specs.declared.key.Key as key
 use Rattle.tallies.specs.declared.tally.Tally as tally
@@ -7,7 +7,6 @@ use Rattle.requests.specs.declared.request.Request.{Request}
 use Rattle.requests.specs.declared.request.Request.TheVariants.{Enter, Withdraw, LookUp, Count}
 use Rattle.rules.specs.declared.mode.Mode.TheVariants.{Between}
 use Rattle.rules.specs.Changes.{with_request, with_waiter, with_uncollected}
-use Rattle.rules.specs.Queues.{given, numbered}
 use Rattle.rules.specs.States.{State}
 use Rattle.cells.specs.declared.cell.Cell.{Cell}
 use Rattle.cells.specs.declared.desk.Desk.{Desk}
@@ -36,7 +35,7 @@ module _ {K F T : Type 0} (k : key.Ghosts K F) (t : tally.Ghosts T K F) where
   fresh_next : ((a : K) → k.made (k.parts a) ≡ a) → (n : ℕ) (r : Request K) → NextCell k t n r (fresh_cell k t n r)
   fresh_next again n r = record { station = refl; request = fresh_request again n r; decision = refl; outcome = refl; counted = refl; waits = refl; made = refl }
 
-  module _ (b : Board K T F) (room : b.count < length b.cells.now) (again : (a : K) → k.made (k.parts a) ≡ a)
+  module _ (b : Board K T F k t) (room : b.count < length b.cells.now) (again : (a : K) → k.made (k.parts a) ≡ a)
       (gate : SlotNamed b.count b.gate) (all : CellsNamed b.count (live b)) where
     pub taken_state : (n : ℕ) (r : Request K) (d : Desk) → 1 ≤ n → n - 1 < length b.desks
         → state_shown k t (set b.cells.now b.count (fresh_cell k t n r)) (b.count + 1) b.gate (set b.desks (n - 1) (record { note = (get_or b.desks (n - 1) d).note; uncollected = Some (b.count + 1) }))
@@ -50,7 +49,7 @@ module _ {K F T : Type 0} (k : key.Ghosts K F) (t : tally.Ghosts T K F) where
         ∙ ap (λ v. taken_as (board_state k t b) (suc v) (suc i) r) (sym (given-count k t b (omega arith)))
 
   -- the cells still name only requests that were submitted
-  pub taken-named : (b : Board K T F) → b.count < length b.cells.now → (c : Cell F T) → CellNamed (suc b.count) c → CellsNamed b.count (live b)
+  pub taken-named : (b : Board K T F k t) → b.count < length b.cells.now → (c : Cell F T) → CellNamed (suc b.count) c → CellsNamed b.count (live b)
       → CellsNamed (b.count + 1) (take (b.count + 1) (set b.cells.now b.count c))
   taken-named b room c m all =
       subst (CellsNamed (b.count + 1)) (sym (take_more_set b.cells.now b.count c room))

@@ -14,35 +14,36 @@ use Rattle.board.specs.declared.board.Board.{Board}
 use Rattle.board.specs.declared.met.Met.{Met}
 use Rattle.board.specs.declared.met.Met.TheVariants as met
 
-module _ {K F T : Type 0} where
+module _ {K F T : Type 0} {k : key.Ghosts K F} {t : tally.Ghosts T K F} where
   -- the cells of the requests that were given numbers
-  abbrev pub live : Board K T F → List (Cell F T)
+  abbrev pub live : Board K T F k t → List (Cell F T)
   live b = take b.count b.cells.now
 
   -- where a request waits
-  abbrev pub waits_of : Board K T F → ℕ → Waits
-  waits_of b t = elim (numbered (live b) t) [ None ↦ Nowhere | Some c ↦ c.waits ]
+  abbrev pub waits_of : Board K T F k t → ℕ → Waits
+  waits_of b n = elim (numbered (live b) n) [ None ↦ Nowhere | Some c ↦ c.waits ]
 
   -- the slots and the tally of a place, as its cell has them
-  abbrev pub left_of : Board K T F → ℕ → Slot
+  abbrev pub left_of : Board K T F k t → ℕ → Slot
   left_of b p = elim (numbered (live b) p) [ None ↦ slot.Empty | Some c ↦ c.left ]
 
-  abbrev pub right_of : Board K T F → ℕ → Slot
+  abbrev pub right_of : Board K T F k t → ℕ → Slot
   right_of b p = elim (numbered (live b) p) [ None ↦ slot.Empty | Some c ↦ c.right ]
 
-  abbrev pub tally_of : key.Ghosts K F → tally.Ghosts T K F → Board K T F → ℕ → T
+module _ {K F T : Type 0} where
+  abbrev pub tally_of : (k : key.Ghosts K F) (t : tally.Ghosts T K F) → Board K T F k t → ℕ → T
   tally_of k t b p = elim (numbered (live b) p) [ None ↦ t.none | Some c ↦ c.tally ]
 
   -- the key that a number names
-  abbrev pub key_of : key.Ghosts K F → tally.Ghosts T K F → Board K T F → ℕ → Option K
+  abbrev pub key_of : (k : key.Ghosts K F) (t : tally.Ghosts T K F) → Board K T F k t → ℕ → Option K
   key_of k t b i = key_named k t (live b) i
 
   -- a slot with its key
-  abbrev pub slot_of : key.Ghosts K F → tally.Ghosts T K F → Board K T F → Slot → rules.Slot K
+  abbrev pub slot_of : (k : key.Ghosts K F) (t : tally.Ghosts T K F) → Board K T F k t → Slot → rules.Slot K
   slot_of k t b x = slot_shown k t (live b) x
 
   -- what is met in a slot: its key with the number that names it
-  abbrev pub met_of : key.Ghosts K F → tally.Ghosts T K F → Board K T F → Slot → Met K
+  abbrev pub met_of : (k : key.Ghosts K F) (t : tally.Ghosts T K F) → Board K T F k t → Slot → Met K
   met_of k t b slot.Empty = met.Nothing
   met_of k t b (slot.Key i) = elim (key_of k t b i) [ None ↦ met.Nothing | Some j ↦ met.Key i j ]
   met_of k t b (slot.Place p) = met.Place p

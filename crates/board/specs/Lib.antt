@@ -1,6 +1,5 @@
-pub mod Desks
-pub mod Cells
 pub mod Of
+pub mod Cells
 pub mod Written
 pub mod Made
 pub mod Taken

@@ -11,7 +11,7 @@ use Rattle.board.specs.Cells.{key_of}
 use Rattle.board.specs.Of.{board_state}
 
 -- place t is made where both numbers name keys
-abbrev pub made_after : {K F T : Type 0} → key.Ghosts K F → tally.Ghosts T K F → Board K T F → ℕ → ℕ → State K T
+abbrev pub made_after : {K F T : Type 0} → (k : key.Ghosts K F) (t : tally.Ghosts T K F) → Board K T F k t → ℕ → ℕ → State K T
 made_after k t b number other =
     elim (key_of k t b number) [
       | None ↦ board_state k t b

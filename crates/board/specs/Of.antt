@@ -1,29 +1,19 @@
 -- The state of the rules that a board shows, and changes of it that want a request's number.
-use Rattle.std.specs.Prelude.{◌≡◌, ℕ, length, Some, None, Option}
+use Rattle.std.specs.Prelude.{ℕ, length, Some, None}
 use Rattle.keys.specs.declared.key.Key as key
 use Rattle.tallies.specs.declared.tally.Tally as tally
 use Rattle.rules.specs.Queues.{numbered}
 use Rattle.rules.specs.States.{State}
 use Rattle.cells.specs.Views.{state_shown}
-use Rattle.cells.specs.Names.{SlotNamed, CellsNamed}
 use Rattle.board.specs.declared.board.Board.{Board}
-use Rattle.board.specs.Cells.{live}
 
-abbrev pub board_state : {K F T : Type 0} → key.Ghosts K F → tally.Ghosts T K F → Board K T F → State K T
-board_state k t b = state_shown k t b.cells.now b.count b.gate b.desks.all
+abbrev pub board_state : {K F T : Type 0} → (k : key.Ghosts K F) (t : tally.Ghosts T K F) → Board K T F k t → State K T
+board_state k t b = state_shown k t b.cells.now b.count b.gate b.desks
 
 -- how long the row of cells is
-abbrev pub row_length : {K F T : Type 0} → Board K T F → ℕ
+abbrev pub row_length : {K F T : Type 0} {k : key.Ghosts K F} {t : tally.Ghosts T K F} → Board K T F k t → ℕ
 row_length b = length b.cells.now
 
 -- a change of a request that was given its number; without such a request there is none
 abbrev pub if_given : {K T : Type 0} → State K T → ℕ → State K T → State K T
 if_given s t changed = elim (numbered s.requests t) [ None ↦ s | Some r ↦ changed ]
-
--- slots and splits name keys only of requests that were submitted
-abbrev pub Named : {K F T : Type 0} → Board K T F → Type 0
-Named b = ∥ SlotNamed b.count b.gate × CellsNamed b.count (live b) ∥₁
-
--- the row keeps its length, and names stay those of requests
-abbrev pub Kept : {K F T : Type 0} → Board K T F → Board K T F → Type 0
-Kept b b' = (row_length b' ≡ row_length b) × (Named b → Named b')

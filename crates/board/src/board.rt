@@ -1,23 +1,27 @@
 // The board: the lent cells, how many of them hold requests, the gate's slot and the stations' desks.
-use super::desks::Desks;
-use cells::{Cell, Slot};
+ghost use Rattle.std.specs.Prelude.{◌≡◌, ◌≤◌, length, take};
+ghost use Rattle.cells.specs.Names.{SlotNamed, CellsNamed};
+
+use cells::{Cell, Desk, Slot};
 use keys::Key;
 use tallies::Tally;
 
+mod asked;
+mod desks;
 mod joining;
 mod off;
 mod opening;
 mod places;
-mod requests;
 mod single;
-mod stations;
 mod taking;
 mod writing;
 
-#[derive(Drop)]
 pub struct Board<'a, K: Key, T: Tally<K>> {
     cells: &'a mut [Cell<K::Fields, T>],
     count: usize,
     gate: Slot,
-    desks: Desks,
+    desks: [Desk; 8],
+    ghost room: { (count ≤ length cells.now) × (count ≤ 1024) },
+    ghost eight: { length desks ≡ 8 },
+    ghost named: { ∥ SlotNamed count gate × CellsNamed count (take count cells.now) ∥₁ },
 }

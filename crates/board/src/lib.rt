@@ -2,7 +2,6 @@
 #![tactic(auto)]
 
 mod board;
-mod desks;
 mod met;
 
 pub use board::Board;

@@ -1,5 +1,5 @@
 -- What a carry does with the head of a queue, by whether it wants a decision. Assumes nothing.
-use Rattle.std.proofs.Common.{◌≡◌, ℕ, zero, suc, Bool, true, false, cond, eqb, List, [], ◌∷◌, Some, None, Option, sym, refl, ap, ◌∙◌, arith}
+use Rattle.std.proofs.Common.{◌≡◌, ℕ, zero, suc, Bool, true, cond, eqb, List, [], ◌∷◌, Some, None, Option, sym, refl, ap, ◌∙◌, arith}
 use Rattle.requests.specs.declared.request.Request.{Request}
 use Rattle.rules.specs.declared.carried.Carried.{Carried}
 use Rattle.rules.specs.declared.note.Note.TheVariants as note

@@ -4,7 +4,6 @@ use Rattle.keys.specs.declared.refusal.Refusal.{Refusal}
 use Rattle.keys.specs.declared.refusal.Refusal.TheVariants.{OutOfRange}
 use Rattle.keys.specs.declared.route.Route.{Route}
 use Rattle.keys.specs.Ranges.{is_signal, nearest_signal}
-use Rattle.keys.specs.Routes.{route_made}
 use Rattle.keys.specs.RoutesLemmas.{route_of_fields}
 use Rattle.requests.specs.declared.request.Request.{Request}
 use Rattle.requests.specs.declared.request.Request.TheVariants.{Enter, Withdraw, LookUp, Count}

@@ -10,8 +10,8 @@ use Rattle.rules.specs.Calls as rules
 use Rattle.lines.specs.declared.call.Call.{Call}
 use Rattle.lines.specs.declared.call.Call.TheVariants.{Submit, Follow, Carry, Collect}
 use Rattle.lines.specs.Forms.{row_form}
-use Rattle.lines.specs.Grammar.{Form, ShortRoute, ShortRequest, ShortForm, spaced, line_row, line_text}
-use Rattle.lines.specs.Meaning.{Written, Outside, Reads, IsOutOfRange, route_plain, request_plain, call_plain, EveryCallHasALine, OneForm}
+use Rattle.lines.specs.Grammar.{Form, ShortRoute, ShortRequest, ShortForm, spaced, line_text}
+use Rattle.lines.specs.Meaning.{Written, Reads, IsOutOfRange, route_plain, request_plain, call_plain, EveryCallHasALine, OneForm}
 use Rattle.lines.specs.Readings.{form_checked, form_call, line_call}
 use Rattle.lines.proofs.Checks.{Checked, form-says, call_back}
 use Rattle.lines.proofs.Rows.{form_are, form_back}

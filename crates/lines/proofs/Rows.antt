@@ -1,7 +1,6 @@
 -- Words that are read as a form are the words of that form, and the other way round. Rests on Names.
-use Rattle.std.proofs.Common.{◌≡◌, ℕ, List, [], ◌∷◌, ◌++◌, Some, None, decimal, Option, sym, refl, ap, ◌∙◌, arith}
+use Rattle.std.proofs.Common.{◌≡◌, ℕ, List, [], ◌∷◌, ◌++◌, Some, None, decimal, Option, refl, ap, ◌∙◌, arith}
 use Rattle.std.specs.Option.{option_map}
-use Rattle.keys.specs.Classes.{class_letter}
 use Rattle.requests.specs.declared.kind.Kind.{Kind}
 use Rattle.requests.specs.declared.kind.Kind.TheVariants as kind
 use Rattle.requests.specs.declared.request.Request.{Request}
@@ -11,16 +10,15 @@ use Rattle.words.specs.declared.routes.RouteWords.{RouteWords}
 use Rattle.words.specs.Figures.{number_in}
 use Rattle.words.specs.Letters.{letter_in}
 use Rattle.words.specs.Lines.{route_words, row_words}
-use Rattle.words.proofs.Rows.{Three, all_three_parts}
+use Rattle.words.proofs.Rows.{all_three_parts}
 use Rattle.words.proofs.Texts.{number_text, number_short, number_back, letter_text, letter_back}
-use Rattle.lines.specs.declared.call.Call.{Call}
 use Rattle.lines.specs.declared.call.Call.TheVariants.{Submit, Follow, Carry, Collect}
 use Rattle.lines.specs.declared.vocabulary.Verb.{Verb}
 use Rattle.lines.specs.declared.vocabulary.Verb.TheVariants as verb
-use Rattle.lines.specs.Forms.{at_end, last_number, both_ends, count_in, request_in, named_in, asked_in, call_in, begun_in, row_form}
+use Rattle.lines.specs.Forms.{at_end, last_number, both_ends, count_in, request_in, asked_in, call_in, row_form}
 use Rattle.lines.specs.Grammar.{Form, route_row, keys_row, line_row, Short, ShortRoute, ShortRequest, ShortForm}
 use Rattle.lines.specs.Vocabulary.{verb_word, kind_word, verb_in, kind_in}
-use Rattle.lines.proofs.Names.{verb_named, kind_named, verb_back, kind_back}
+use Rattle.lines.proofs.Names.{verb_named, kind_named, kind_back}
 
 -- the words are those, and the numbers short
 pub record Are (row words : List (List ℕ)) (Small : Type 0) : Type 0 where

@@ -1,12 +1,10 @@
 -- A row of words taken one by one from the front, and what it then is. Assumes nothing.
 use Rattle.std.proofs.Common.{◌≡◌, ℕ, List, [], ◌∷◌, Some, None, Option, sym, refl, ap, ◌∙◌, arith}
 use Rattle.octets.specs.Cuts.{first_of, others_of}
-use Rattle.requests.specs.declared.request.Request.{Request}
 use Rattle.words.specs.declared.routes.RouteWords.{RouteWords}
 use Rattle.words.specs.Figures.{number_in}
 use Rattle.words.specs.Lines.{route_words, row_words}
 use Rattle.lines.specs.declared.vocabulary.Verb.{Verb}
-use Rattle.lines.specs.Grammar.{Form}
 use Rattle.lines.specs.Forms.{last_number, both_ends, count_in, begun_in, row_form}
 use Rattle.lines.specs.Vocabulary.{verb_in}
 

@@ -1,5 +1,5 @@
 -- The text of a form is cut into the words of the form, and is short. Rests on Names and on the pieces of a text.
-use Rattle.std.proofs.Common.{◌≡◌, ℕ, ◌+◌, ◌^◌, ◌<◌, ◌≤◌, true, List, [], ◌∷◌, ◌++◌, length, decimal, sym, refl, ap, ◌∙◌, arith, length-append}
+use Rattle.std.proofs.Common.{◌≡◌, ℕ, ◌≤◌, true, List, [], ◌∷◌, ◌++◌, length, decimal, refl, ap, ◌∙◌, arith, length-append}
 use Rattle.std.proofs.lemmas.Fmt.{length-decimal-le}
 use Rattle.octets.specs.Cuts.{pieces}
 use Rattle.octets.proofs.Joins.{joined_by, lacks, joined-pieces, pieces_alone, pieces-before}
@@ -8,7 +8,6 @@ use Rattle.requests.specs.declared.request.Request.TheVariants.{Enter, Withdraw,
 use Rattle.requests.specs.Requests.{kind_of}
 use Rattle.words.specs.declared.routes.RouteWords.{RouteWords}
 use Rattle.words.proofs.Texts.{decimal_lacks, letter_lacks}
-use Rattle.lines.specs.declared.call.Call.{Call}
 use Rattle.lines.specs.declared.call.Call.TheVariants.{Submit, Follow, Carry, Collect}
 use Rattle.lines.specs.declared.vocabulary.Verb.TheVariants as verb
 use Rattle.lines.specs.Grammar.{Form, route_row, keys_row, line_row, spaced, line_text, Short, ShortRoute, ShortRequest, ShortForm}

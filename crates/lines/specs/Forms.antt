@@ -10,7 +10,6 @@ use Rattle.requests.specs.declared.request.Request.TheVariants.{Enter, Withdraw,
 use Rattle.words.specs.declared.routes.RouteWords.{RouteWords}
 use Rattle.words.specs.Figures.{number_in}
 use Rattle.words.specs.Lines.{route_words, row_words}
-use Rattle.lines.specs.declared.call.Call.{Call}
 use Rattle.lines.specs.declared.call.Call.TheVariants.{Submit, Follow, Carry, Collect}
 use Rattle.lines.specs.declared.vocabulary.Verb.{Verb}
 use Rattle.lines.specs.declared.vocabulary.Verb.TheVariants as verb

@@ -1,14 +1,12 @@
 -- The grammar: the words of a line and its text, from what stands in it.
 use Rattle.std.specs.Prelude.{ℕ, ◌<◌, List, [], ◌∷◌, ◌++◌, decimal}
 use Rattle.keys.specs.Classes.{class_letter}
-use Rattle.requests.specs.declared.kind.Kind.{Kind}
 use Rattle.requests.specs.declared.request.Request.{Request}
 use Rattle.requests.specs.declared.request.Request.TheVariants.{Enter, Withdraw, LookUp, Count}
 use Rattle.requests.specs.Requests.{kind_of}
 use Rattle.words.specs.declared.routes.RouteWords.{RouteWords}
 use Rattle.lines.specs.declared.call.Call.{Call}
 use Rattle.lines.specs.declared.call.Call.TheVariants.{Submit, Follow, Carry, Collect}
-use Rattle.lines.specs.declared.vocabulary.Verb.{Verb}
 use Rattle.lines.specs.declared.vocabulary.Verb.TheVariants as verb
 use Rattle.lines.specs.Vocabulary.{verb_word, kind_word}
 

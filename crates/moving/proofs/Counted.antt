@@ -1,12 +1,11 @@
 -- A count at a place, by its mode and where its ends lie against the split. Rests on Kept.
-use Rattle.std.proofs.Common.{◌≡◌, ℕ, zero, suc, Bool, true, false, ◌⊎◌, List, [], ◌∷◌, Some, None, Option, sym, refl, ap, ◌∙◌, subst, inl, inr}
+use Rattle.std.proofs.Common.{◌≡◌, ℕ, zero, suc, ◌⊎◌, List, [], ◌∷◌, Some, None, sym, refl, ap, ◌∙◌, subst, inl, inr}
 use Rattle.std.specs.Option.{option_map}
 use Rattle.keys.specs.declared.key.Key as key
 use Rattle.tallies.specs.declared.tally.Tally as tally
 use Rattle.requests.specs.declared.request.Request.TheVariants.{Count}
 use Rattle.rules.specs.declared.mode.Mode.{Mode}
 use Rattle.rules.specs.declared.mode.Mode.TheVariants.{Between, From, Upto}
-use Rattle.rules.specs.Changes.{with_counted, with_waiter}
 use Rattle.rules.specs.Kinds.{Kinds, kinds_of, before}
 use Rattle.rules.specs.Moves.{Side, on_left, on_right, slot_on, Step, show, add, count_steps, shown, stepped_all, count_at, with_added, whole}
 use Rattle.rules.specs.Queues.{numbered}
@@ -50,13 +49,13 @@ module _ {K F T : Type 0} (k : key.Ghosts K F) (t : tally.Ghosts T K F) where
   w = kinds_of k t
 
   -- what showing a count a slot promises
-  abbrev Shows : Board K T F → Board K T F → ℕ → K → K → Mode → raw.Slot → Type 0
+  abbrev Shows : Board K T F k t → Board K T F k t → ℕ → K → K → Mode → raw.Slot → Type 0
   Shows b b' n lo hi m x =
       numbered (board_state k t b).requests n ≡ Some (Count lo hi) → ((f : ℕ) → slot_of k t b x ≡ leads f → Joinable (board_state k t b) n f m)
       → board_state k t b' ≡ shown (kinds_of k t) (board_state k t b) n lo hi m (slot_of k t b x)
 
   -- at the gate
-  pub counted-gate : (b b1 : Board K T F) (n p : ℕ) (lo hi : K) (m : Mode) (x : raw.Slot) → p ≡ 0 → x ≡ b.gate → numbered (board_state k t b).requests n ≡ Some (Count lo hi) → Counts (board_state k t b) n p m
+  pub counted-gate : (b b1 : Board K T F k t) (n p : ℕ) (lo hi : K) (m : Mode) (x : raw.Slot) → p ≡ 0 → x ≡ b.gate → numbered (board_state k t b).requests n ≡ Some (Count lo hi) → Counts (board_state k t b) n p m
       → Shows b b1 n lo hi Between x → board_state k t b1 ≡ count_at (kinds_of k t) (board_state k t b) n p lo hi m
   counted-gate b b1 n p lo hi m x zero-p gate num may shows =
       let s = board_state k t b in
@@ -64,7 +63,7 @@ module _ {K F T : Type 0} (k : key.Ghosts K F) (t : tally.Ghosts T K F) where
       ∙ ap (λ v. shown w s n lo hi Between (slot_of k t b v)) gate
       ∙ ap (λ v. count_at w s n v lo hi m) (sym zero-p)
 
-  module _ (b : Board K T F) (n p : ℕ) (lo hi v : K) (m : Mode) (ne : p ≡ 0 → ⊥) (split : option_map (λ (f : Place K T). f.split) ((board_state k t b).place p) ≡ Some v)
+  module _ (b : Board K T F k t) (n p : ℕ) (lo hi v : K) (m : Mode) (ne : p ≡ 0 → ⊥) (split : option_map (λ (f : Place K T). f.split) ((board_state k t b).place p) ≡ Some v)
       (num : numbered (board_state k t b).requests n ≡ Some (Count lo hi)) (may : Counts (board_state k t b) n p m) where
     abbrev s : State K T
     s = board_state k t b
@@ -87,7 +86,7 @@ module _ {K F T : Type 0} (k : key.Ghosts K F) (t : tally.Ghosts T K F) where
     by_steps steps is = ap (stepped_all w s n lo hi f) (sym is) ∙ sym (count-here w s n p lo hi m f ne (placed k t b p v split))
 
     -- the count is shown one slot
-    pub counted_one : (b1 : Board K T F) (side : Side) (m' : Mode) (x : raw.Slot) → x ≡ slot_raw side → (m' ≡ m) ⊎ (m ≡ Between)
+    pub counted_one : (b1 : Board K T F k t) (side : Side) (m' : Mode) (x : raw.Slot) → x ≡ slot_raw side → (m' ≡ m) ⊎ (m ≡ Between)
         → count_steps m (k.le v lo) (before (kinds_of k t) hi v) ≡ show side m' ∷ [] → Shows b b1 n lo hi m' x
         → board_state k t b1 ≡ count_at (kinds_of k t) (board_state k t b) n p lo hi m
     counted_one b1 side m' x own mode steps shows =
@@ -97,7 +96,7 @@ module _ {K F T : Type 0} (k : key.Ghosts K F) (t : tally.Ghosts T K F) where
         ∙ by_steps (show side m' ∷ []) steps
 
     -- the count forks
-    pub counted_fork : (b1 b2 : Board K T F) (x y : raw.Slot) → x ≡ slot_raw on_left → y ≡ slot_raw on_right → m ≡ Between
+    pub counted_fork : (b1 b2 : Board K T F k t) (x y : raw.Slot) → x ≡ slot_raw on_left → y ≡ slot_raw on_right → m ≡ Between
         → count_steps m (k.le v lo) (before (kinds_of k t) hi v) ≡ show on_left From ∷ (show on_right Upto ∷ [])
         → Shows b b1 n lo hi From x → Shows b1 b2 n lo hi Upto y
         → board_state k t b2 ≡ count_at (kinds_of k t) (board_state k t b) n p lo hi m
@@ -116,7 +115,7 @@ module _ {K F T : Type 0} (k : key.Ghosts K F) (t : tally.Ghosts T K F) where
         ∙ by_steps (show on_left From ∷ (show on_right Upto ∷ [])) steps
 
     -- the whole of one side is added, and the other shown
-    pub counted_added : (b1 b2 : Board K T F) (side other : Side) (m' : Mode) (x y : raw.Slot) (sum : T) → x ≡ slot_raw side → y ≡ slot_raw other → m' ≡ m
+    pub counted_added : (b1 b2 : Board K T F k t) (side other : Side) (m' : Mode) (x y : raw.Slot) (sum : T) → x ≡ slot_raw side → y ≡ slot_raw other → m' ≡ m
         → count_steps m (k.le v lo) (before (kinds_of k t) hi v) ≡ add side ∷ (show other m' ∷ [])
         → sum ≡ whole (kinds_of k t) (board_state k t b) (slot_of k t b x)
         → board_state k t b1 ≡ if_given (board_state k t b) n (with_added (kinds_of k t) (board_state k t b) n sum)

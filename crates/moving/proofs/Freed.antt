@@ -1,5 +1,5 @@
 -- In a sound state, the head of a queue may go on to the places below it once it has left. Rests on the rules' soundness.
-use Rattle.std.proofs.Common.{◌≡◌, ℕ, zero, true, ◌⊎◌, List, ◌∷◌, is_some, Some, sym, refl, ap, ◌∙◌, subst, inl, inr, arith}
+use Rattle.std.proofs.Common.{◌≡◌, ℕ, true, List, ◌∷◌, is_some, Some, sym, refl, ap, ◌∙◌, inr, arith}
 use mathlib.Core.Bool.{Bool-set}
 use mathlib.Core.HLevel.{⊥_prop, Π_prop, →_prop, ×_prop, ×₃_prop}
 use mathlib.Core.Logic.{∥∥₁_elim}
@@ -11,14 +11,13 @@ use Rattle.rules.specs.declared.mode.Mode.TheVariants.{Between, From, Upto}
 use Rattle.rules.specs.Carries.{sought}
 use Rattle.rules.specs.Changes.{with_queue, with_waiter}
 use Rattle.rules.specs.Kinds.{Kinds}
-use Rattle.rules.specs.Moves.{on_left, on_right, slot_for}
+use Rattle.rules.specs.Moves.{on_left, on_right}
 use Rattle.rules.specs.Queues.{behind, numbered}
-use Rattle.rules.specs.Sound.{same_mode, Sounds, Sound, slot_at}
+use Rattle.rules.specs.Sound.{same_mode, Sounds, Sound}
 use Rattle.rules.specs.States.{State, Waiter, leads}
 use Rattle.rules.proofs.SoundJoins.{Joiner, joiner, joiner_last, joiner_again}
 use Rattle.rules.proofs.SoundLeaves.{freed}
 use Rattle.rules.proofs.SoundMoves.{slot_for-at, count_joiner}
-use Rattle.rules.proofs.SoundQueues.{mode_self}
 use Rattle.cells.specs.Joins.{Joinable}
 use Rattle.moving.specs.Movable.{Passes, Counts}
 

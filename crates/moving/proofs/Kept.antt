@@ -1,5 +1,5 @@
 -- What single changes leave: requests, queues, and with them the keys that numbers name. Assumes nothing.
-use Rattle.std.proofs.Common.{◌≡◌, ℕ, zero, suc, ◌≤◌, true, leb, List, [], ◌∷◌, map, length, take, Some, None, Option, sym, refl, ap, ◌∙◌, subst, arith}
+use Rattle.std.proofs.Common.{◌≡◌, ℕ, zero, suc, ◌≤◌, true, leb, List, [], ◌∷◌, length, Some, None, Option, sym, refl, ap, ◌∙◌, arith}
 use Rattle.std.specs.Option.{option_map}
 use Rattle.keys.specs.declared.key.Key as key
 use Rattle.tallies.specs.declared.tally.Tally as tally
@@ -7,7 +7,7 @@ use Rattle.requests.specs.declared.kind.Kind.{Kind}
 use Rattle.requests.specs.declared.kind.Kind.TheVariants as kind
 use Rattle.requests.specs.declared.request.Request.{Request}
 use Rattle.rules.specs.Changes.{with_place}
-use Rattle.rules.specs.Kinds.{Kinds, kinds_of}
+use Rattle.rules.specs.Kinds.{Kinds}
 use Rattle.rules.specs.Moves.{side_of, with_slot_on, with_tally, with_slot_for, with_joined}
 use Rattle.rules.specs.Queues.{numbered, given, stands}
 use Rattle.rules.specs.Sound.{stands_in}
@@ -78,27 +78,27 @@ module _ {K F T : Type 0} (k : key.Ghosts K F) (t : tally.Ghosts T K F) where
   first_of kind.Count a c = refl
 
   -- the key that a number names is the first key of its request
-  pub key_by_request : (b : Board K T F) (i : ℕ) → key_of k t b i ≡ option_map first_key (numbered (board_state k t b).requests i)
+  pub key_by_request : (b : Board K T F k t) (i : ℕ) → key_of k t b i ≡ option_map first_key (numbered (board_state k t b).requests i)
   key_by_request b i = go (numbered (live b) i) ∙ ap (option_map first_key) (sym (numbered-map (request_in k t) (live b) i))
     where
       go : (o : Option (Cell F T)) → option_map (λ (c : Cell F T). k.made c.first) o ≡ option_map first_key (option_map (request_in k t) o)
       go None = refl
       go (Some c) = ap Some (sym (first_of c.kind c.first c.second))
 
-  pub key_kept : (b b' : Board K T F) → (board_state k t b').requests ≡ (board_state k t b).requests → (i : ℕ) → key_of k t b' i ≡ key_of k t b i
+  pub key_kept : (b b' : Board K T F k t) → (board_state k t b').requests ≡ (board_state k t b).requests → (i : ℕ) → key_of k t b' i ≡ key_of k t b i
   key_kept b b' same i = key_by_request b' i ∙ ap (λ rs. option_map first_key (numbered rs i)) same ∙ sym (key_by_request b i)
 
-  pub slot_kept : (b b' : Board K T F) → (board_state k t b').requests ≡ (board_state k t b).requests → (x : Slot) → slot_of k t b' x ≡ slot_of k t b x
+  pub slot_kept : (b b' : Board K T F k t) → (board_state k t b').requests ≡ (board_state k t b).requests → (x : Slot) → slot_of k t b' x ≡ slot_of k t b x
   slot_kept b b' same slot.Empty = refl
   slot_kept b b' same (slot.Key i) = ap (λ o. elim o as (λ _. rules.Slot K) [ None ↦ rules.empty | Some j ↦ rules.holds j ]) (key_kept b b' same i)
   slot_kept b b' same (slot.Place p) = refl
 
   -- a slot named by a request holds its first key
-  pub own_slot : (b : Board K T F) (i : ℕ) (r : Request K) → numbered (board_state k t b).requests i ≡ Some r → slot_of k t b (slot.Key i) ≡ rules.holds (first_key r)
+  pub own_slot : (b : Board K T F k t) (i : ℕ) (r : Request K) → numbered (board_state k t b).requests i ≡ Some r → slot_of k t b (slot.Key i) ≡ rules.holds (first_key r)
   own_slot b i r e = ap (λ o. elim o as (λ _. rules.Slot K) [ None ↦ rules.empty | Some j ↦ rules.holds j ]) (key_by_request b i ∙ ap (option_map first_key) e)
 
   -- what is met in a slot is what it holds
-  pub met_shown : (b : Board K T F) (x : Slot) → met_slot (met_of k t b x) ≡ slot_of k t b x
+  pub met_shown : (b : Board K T F k t) (x : Slot) → met_slot (met_of k t b x) ≡ slot_of k t b x
   met_shown b slot.Empty = refl
   met_shown b (slot.Key i) = go (key_of k t b i)
     where
@@ -108,7 +108,7 @@ module _ {K F T : Type 0} (k : key.Ghosts K F) (t : tally.Ghosts T K F) where
   met_shown b (slot.Place p) = refl
 
   -- a key that is met is that of its number
-  pub met_named : (b : Board K T F) (x : Slot) (i : ℕ) (j : K) → met_of k t b x ≡ met.Key i j → key_of k t b i ≡ Some j
+  pub met_named : (b : Board K T F k t) (x : Slot) (i : ℕ) (j : K) → met_of k t b x ≡ met.Key i j → key_of k t b i ≡ Some j
   met_named b slot.Empty i j e = absurd (let z : ◌≡◌ {A = ℕ} 0 1 = cc in omega arith)
   met_named b (slot.Key v) i j e = go (key_of k t b v) refl e
     where

@@ -1,28 +1,25 @@
 -- The head of a queue leaves it and acts: what the board then shows. Rests on Freed.
-use Rattle.std.proofs.Common.{◌≡◌, ℕ, Bool, true, false, cond, eqb, List, [], ◌∷◌, is_some, Some, sym, refl, ap, ◌∙◌, subst, arith}
+use Rattle.std.proofs.Common.{◌≡◌, ℕ, true, eqb, List, ◌∷◌, is_some, Some, sym, ap, ◌∙◌, subst, arith}
 use Rattle.keys.specs.declared.key.Key as key
 use Rattle.tallies.specs.declared.tally.Tally as tally
 use Rattle.requests.specs.declared.answer.Answer.{Answer}
 use Rattle.requests.specs.declared.request.Request.{Request}
-use Rattle.requests.specs.declared.request.Request.TheVariants.{Count}
-use Rattle.rules.specs.declared.mode.Mode.{Mode}
 use Rattle.rules.specs.Carries.{sought}
 use Rattle.rules.specs.Changes.{with_queue, with_answer}
-use Rattle.rules.specs.Kinds.{Kinds, kinds_of}
-use Rattle.rules.specs.Moves.{acted}
+use Rattle.rules.specs.Kinds.{kinds_of}
 use Rattle.rules.specs.Queues.{behind, heads, numbered}
-use Rattle.rules.specs.Sound.{Sound, Rises}
+use Rattle.rules.specs.Sound.{Sound}
 use Rattle.rules.specs.States.{State, Waiter}
 use Rattle.cells.specs.Rosters.{removed}
 use Rattle.cells.proofs.Leaving.{roster-rises, removed_head}
 use Rattle.cells.proofs.Singles.{waits_row}
 use Rattle.board.specs.declared.board.Board.{Board}
 use Rattle.board.specs.Of.{board_state, if_given}
-use Rattle.moving.specs.Movable.{Passes, Counts}
-use Rattle.moving.proofs.Freed.{may_pass, may_count}
+use Rattle.moving.specs.Movable.{Passes}
+use Rattle.moving.proofs.Freed.{may_pass}
 use Rattle.moving.proofs.Kept.{given_then}
 
-module _ {K F T : Type 0} (k : key.Ghosts K F) (t : tally.Ghosts T K F) (b : Board K T F) (n p : ℕ) (e : Waiter) (q : List Waiter) (line : (board_state k t b).queue p ≡ e ∷ q) (is : e.number ≡ n)
+module _ {K F T : Type 0} (k : key.Ghosts K F) (t : tally.Ghosts T K F) (b : Board K T F k t) (n p : ℕ) (e : Waiter) (q : List Waiter) (line : (board_state k t b).queue p ≡ e ∷ q) (is : e.number ≡ n)
     (r : Request K) (num : numbered (board_state k t b).requests n ≡ Some r) where
   abbrev s : State K T
   s = board_state k t b
@@ -31,7 +28,7 @@ module _ {K F T : Type 0} (k : key.Ghosts K F) (t : tally.Ghosts T K F) (b : Boa
   left = with_queue s p (behind (s.queue p))
 
   -- the head has left
-  pub has_left : (b1 : Board K T F) → board_state k t b1 ≡ if_given (board_state k t b) n (with_queue (board_state k t b) p (removed n ((board_state k t b).queue p))) → board_state k t b1 ≡ left
+  pub has_left : (b1 : Board K T F k t) → board_state k t b1 ≡ if_given (board_state k t b) n (with_queue (board_state k t b) p (removed n ((board_state k t b).queue p))) → board_state k t b1 ≡ left
   has_left b1 went =
       went
       ∙ given_then s n r (with_queue s p (removed n (s.queue p))) num
@@ -40,14 +37,14 @@ module _ {K F T : Type 0} (k : key.Ghosts K F) (t : tally.Ghosts T K F) (b : Boa
   num_own : numbered s.requests e.number ≡ Some r
   num_own = ap (numbered s.requests) is ∙ num
 
-  pub still_given : (b1 : Board K T F) → board_state k t b1 ≡ left → numbered (board_state k t b1).requests n ≡ Some r
+  pub still_given : (b1 : Board K T F k t) → board_state k t b1 ≡ left → numbered (board_state k t b1).requests n ≡ Some r
   still_given b1 went = ap (λ (z : State K T). numbered z.requests n) went ∙ num
 
-  pub passes : Sound (board_state k t b) → is_some (sought r) ≡ true → (j : K) (b1 : Board K T F) → board_state k t b1 ≡ left → Passes (kinds_of k t) (board_state k t b1) n p j
+  pub passes : Sound (board_state k t b) → is_some (sought r) ≡ true → (j : K) (b1 : Board K T F k t) → board_state k t b1 ≡ left → Passes (kinds_of k t) (board_state k t b1) n p j
   passes sound wants j b1 went = subst (λ z. Passes (kinds_of k t) z n p j) (sym went) (subst (λ i. Passes (kinds_of k t) left i p j) is (may_pass (kinds_of k t) s sound p e q line r num_own wants j))
 
   -- the head, having left, bears an answer
-  pub answers : (b1 b2 : Board K T F) (a : Answer T) → board_state k t b1 ≡ left → board_state k t b2 ≡ if_given (board_state k t b1) n (with_answer (board_state k t b1) n a)
+  pub answers : (b1 b2 : Board K T F k t) (a : Answer T) → board_state k t b1 ≡ left → board_state k t b2 ≡ if_given (board_state k t b1) n (with_answer (board_state k t b1) n a)
       → board_state k t b2 ≡ with_answer left e.number a
   answers b1 b2 a went told =
       told ∙ given_then (board_state k t b1) n r (with_answer (board_state k t b1) n a) (still_given b1 went)

@@ -1,5 +1,5 @@
 -- An enter and a withdraw at a place, by what its slot holds. Rests on Kept.
-use Rattle.std.proofs.Common.{◌≡◌, ℕ, true, cond, leb, Some, None, Option, sym, refl, ap, ◌∙◌}
+use Rattle.std.proofs.Common.{◌≡◌, ℕ, cond, Some, None, sym, ap, ◌∙◌}
 use Rattle.std.specs.Option.{option_map}
 use Rattle.keys.specs.declared.key.Key as key
 use Rattle.tallies.specs.declared.tally.Tally as tally
@@ -26,7 +26,7 @@ use Rattle.moving.specs.Movable.{Passes}
 use Rattle.moving.proofs.Kept.{slot-requests, joined-requests, joined-queue, given_then, named-given, joinable_same, key_by_request, key_kept, own_slot, met_shown, met_named}
 
 module _ {K F T : Type 0} (k : key.Ghosts K F) (t : tally.Ghosts T K F) where
-  module _ (b : Board K T F) (number p : ℕ) (j : K) (x : Slot) (at : slot_of k t b x ≡ slot_for (kinds_of k t) (board_state k t b) p j) where
+  module _ (b : Board K T F k t) (number p : ℕ) (j : K) (x : Slot) (at : slot_of k t b x ≡ slot_for (kinds_of k t) (board_state k t b) p j) where
     abbrev s : State K T
     s = board_state k t b
 
@@ -38,7 +38,7 @@ module _ {K F T : Type 0} (k : key.Ghosts K F) (t : tally.Ghosts T K F) where
     put-named : (r : Request K) (s' : State K T) → numbered s.requests number ≡ Some r → cond (names (given s) (slot.Key number)) s' s ≡ s'
     put-named r s' num = ap (λ v. cond v s' s) (named-given s number r num)
 
-    pub entered_empty : (b1 b2 : Board K T F) → met_of k t b x ≡ met.Nothing → numbered s.requests number ≡ Some (Enter j)
+    pub entered_empty : (b1 b2 : Board K T F k t) → met_of k t b x ≡ met.Nothing → numbered s.requests number ≡ Some (Enter j)
         → board_state k t b1 ≡ cond (names (given s) (slot.Key number)) (with_slot_for (kinds_of k t) s p j (slot_of k t b (slot.Key number))) s
         → board_state k t b2 ≡ if_given (board_state k t b1) number (with_answer (board_state k t b1) number Changed)
         → board_state k t b2 ≡ enter_at (kinds_of k t) s number p j (slot_for (kinds_of k t) s p j)
@@ -51,7 +51,7 @@ module _ {K F T : Type 0} (k : key.Ghosts K F) (t : tally.Ghosts T K F) where
         ∙ ap (λ v. with_answer v number Changed) one
         ∙ ap (enter_at (kinds_of k t) s number p j) (sym (met_is rules.empty (ap met_slot met)))
 
-    pub entered_key : (b1 b2 b3 : Board K T F) (i : ℕ) (h : K) → met_of k t b x ≡ met.Key i h → numbered s.requests number ≡ Some (Enter j)
+    pub entered_key : (b1 b2 b3 : Board K T F k t) (i : ℕ) (h : K) → met_of k t b x ≡ met.Key i h → numbered s.requests number ≡ Some (Enter j)
         → board_state k t b1 ≡ cond (names (given s) (slot.Place number)) (with_slot_for (kinds_of k t) s p j (slot_of k t b (slot.Place number))) s
         → board_state k t b2 ≡ made_after k t b1 number i
         → board_state k t b3 ≡ if_given (board_state k t b2) number (with_answer (board_state k t b2) number Changed)
@@ -72,7 +72,7 @@ module _ {K F T : Type 0} (k : key.Ghosts K F) (t : tally.Ghosts T K F) where
         ∙ ap (enter_at (kinds_of k t) s number p j) (sym (met_is (rules.holds h) (ap met_slot met)))
 
     -- on to the place that the slot leads to, its tally joined first
-    passed : (r : Request K) (b1 b2 : Board K T F) (f : ℕ) (weight : T) → met_of k t b x ≡ met.Place f → numbered s.requests number ≡ Some r → Passes (kinds_of k t) s number p j
+    passed : (r : Request K) (b1 b2 : Board K T F k t) (f : ℕ) (weight : T) → met_of k t b x ≡ met.Place f → numbered s.requests number ≡ Some r → Passes (kinds_of k t) s number p j
         → board_state k t b1 ≡ with_joined (kinds_of k t) s f weight
         → (Joinable (board_state k t b1) number f Between → board_state k t b2 ≡ if_given (board_state k t b1) number (with_waiter (board_state k t b1) f number Between))
         → board_state k t b2 ≡ with_waiter (with_joined (kinds_of k t) s f weight) f number Between
@@ -83,21 +83,21 @@ module _ {K F T : Type 0} (k : key.Ghosts K F) (t : tally.Ghosts T K F) where
         ∙ given_then (board_state k t b1) number r (with_waiter (board_state k t b1) f number Between) still
         ∙ ap (λ v. with_waiter v f number Between) join
 
-    pub entered_place : (b1 b2 : Board K T F) (f : ℕ) → met_of k t b x ≡ met.Place f → numbered s.requests number ≡ Some (Enter j) → Passes (kinds_of k t) s number p j
+    pub entered_place : (b1 b2 : Board K T F k t) (f : ℕ) → met_of k t b x ≡ met.Place f → numbered s.requests number ≡ Some (Enter j) → Passes (kinds_of k t) s number p j
         → board_state k t b1 ≡ with_joined (kinds_of k t) s f (t.weighed j)
         → (Joinable (board_state k t b1) number f Between → board_state k t b2 ≡ if_given (board_state k t b1) number (with_waiter (board_state k t b1) f number Between))
         → board_state k t b2 ≡ enter_at (kinds_of k t) s number p j (slot_for (kinds_of k t) s p j)
     entered_place b1 b2 f met num may join went =
         passed (Enter j) b1 b2 f (t.weighed j) met num may join went ∙ ap (enter_at (kinds_of k t) s number p j) (sym (met_is (rules.leads f) (ap met_slot met)))
 
-    pub withdrawn_place : (b1 b2 : Board K T F) (f : ℕ) → met_of k t b x ≡ met.Place f → numbered s.requests number ≡ Some (Withdraw j) → Passes (kinds_of k t) s number p j
+    pub withdrawn_place : (b1 b2 : Board K T F k t) (f : ℕ) → met_of k t b x ≡ met.Place f → numbered s.requests number ≡ Some (Withdraw j) → Passes (kinds_of k t) s number p j
         → board_state k t b1 ≡ with_joined (kinds_of k t) s f (t.opposed (t.weighed j))
         → (Joinable (board_state k t b1) number f Between → board_state k t b2 ≡ if_given (board_state k t b1) number (with_waiter (board_state k t b1) f number Between))
         → board_state k t b2 ≡ withdraw_at (kinds_of k t) s number p j (slot_for (kinds_of k t) s p j)
     withdrawn_place b1 b2 f met num may join went =
         passed (Withdraw j) b1 b2 f (t.opposed (t.weighed j)) met num may join went ∙ ap (withdraw_at (kinds_of k t) s number p j) (sym (met_is (rules.leads f) (ap met_slot met)))
 
-    pub withdrawn_key : (b1 b2 : Board K T F) (i : ℕ) (h : K) → met_of k t b x ≡ met.Key i h → numbered s.requests number ≡ Some (Withdraw j)
+    pub withdrawn_key : (b1 b2 : Board K T F k t) (i : ℕ) (h : K) → met_of k t b x ≡ met.Key i h → numbered s.requests number ≡ Some (Withdraw j)
         → board_state k t b1 ≡ cond (names (given s) slot.Empty) (with_slot_for (kinds_of k t) s p j (slot_of k t b slot.Empty)) s
         → board_state k t b2 ≡ if_given (board_state k t b1) number (with_answer (board_state k t b1) number Changed)
         → board_state k t b2 ≡ withdraw_at (kinds_of k t) s number p j (slot_for (kinds_of k t) s p j)

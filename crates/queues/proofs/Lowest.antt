@@ -58,7 +58,7 @@ least_lowest (Halves p u) b h =
     lowest_is (waits_at (Halves p u)) b u (h u own) own (λ q l. grind arith) ∙ ap Some (sym is))
     (cases_lt p u)
 
-module _ {K F T : Type 0} (k : key.Ghosts K F) (t : tally.Ghosts T K F) (b : Board K T F) where
+module _ {K F T : Type 0} (k : key.Ghosts K F) (t : tally.Ghosts T K F) (b : Board K T F k t) where
   -- no place has a higher number than the last request
   place-within : Sounds (board_state k t b) → (x p : ℕ) → waits_at (waits_of b x) p ≡ true → p < suc (given (board_state k t b))
   place-within h x p w =

@@ -53,7 +53,7 @@ mode-roster p xs (suc i) m w = go (numbered xs (suc i)) refl w
     go None e u = absurd (let z : ◌≡◌ {A = ℕ} 0 1 = cc in omega arith)
     go (Some y) e u = let next : suc i ≡ 1 + i = omega arith in ap (λ n. stands_in n m (roster p 1 xs)) next ∙ roster_in p 1 xs i y m e u
 
-module _ {K F T : Type 0} (k : key.Ghosts K F) (t : tally.Ghosts T K F) (b : Board K T F) where
+module _ {K F T : Type 0} (k : key.Ghosts K F) (t : tally.Ghosts T K F) (b : Board K T F k t) where
   waits-shown : (x : ℕ) → waits_in (map (λ c. c.waits) (live b)) x ≡ waits_of b x
   waits-shown x = ap (λ o. elim o as (λ _. Waits) [ None ↦ Nowhere | Some y ↦ y ]) (numbered-map (λ c. c.waits) (live b) x) ∙ go (numbered (live b) x)
     where

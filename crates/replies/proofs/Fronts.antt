@@ -1,5 +1,5 @@
 -- The text of an answer at the front of a row that is long enough. Rests on Pasted.
-use Rattle.std.proofs.Common.{◌≡◌, ℕ, ◌+◌, ◌≤◌, false, ltb, List, length, Ok, refl, ap, ◌∙◌, arith}
+use Rattle.std.proofs.Common.{◌≡◌, ℕ, ◌≤◌, false, ltb, List, length, Ok, ap, ◌∙◌, arith}
 use Rattle.replies.specs.declared.reply.Reply.{Reply}
 use Rattle.replies.specs.Placing.{Puts}
 use Rattle.replies.specs.Texts.{reply_text, put_answer, put_after}

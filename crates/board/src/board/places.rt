@@ -29,8 +29,7 @@ impl<'a, K: Key, T: Tally<K>> Board<'a, K, T> {
             return None;
         }
         let at = (number - 1) as usize;
-        let count = self.count();
-        if at >= count {
+        if at >= self.count {
             return None;
         }
         if !cells[at].made {
@@ -48,8 +47,7 @@ impl<'a, K: Key, T: Tally<K>> Board<'a, K, T> {
             return Slot::Empty;
         }
         let at = (number - 1) as usize;
-        let count = self.count();
-        if at >= count {
+        if at >= self.count {
             return Slot::Empty;
         }
         cells[at].left
@@ -64,8 +62,7 @@ impl<'a, K: Key, T: Tally<K>> Board<'a, K, T> {
             return Slot::Empty;
         }
         let at = (number - 1) as usize;
-        let count = self.count();
-        if at >= count {
+        if at >= self.count {
             return Slot::Empty;
         }
         cells[at].right
@@ -80,8 +77,7 @@ impl<'a, K: Key, T: Tally<K>> Board<'a, K, T> {
             return T::zero();
         }
         let at = (number - 1) as usize;
-        let count = self.count();
-        if at >= count {
+        if at >= self.count {
             return T::zero();
         }
         cells[at].tally

@@ -1,6 +1,7 @@
 // One cell read to be written back, and written.
 ghost use Rattle.std.specs.Prelude.{◌≡◌};
 ghost use Rattle.rules.specs.Queues.{numbered};
+ghost use Rattle.cells.specs.Names.{CellNamed};
 ghost use Rattle.board.specs.Cells.{live};
 ghost use Rattle.board.specs.Written.{Rewritten, written_at};
 
@@ -19,8 +20,7 @@ impl<'a, K: Key, T: Tally<K>> Board<'a, K, T> {
             return None;
         }
         let at = (number - 1) as usize;
-        let count = self.count();
-        if at >= count {
+        if at >= self.count {
             return None;
         }
         Some(cells[at])
@@ -28,14 +28,14 @@ impl<'a, K: Key, T: Tally<K>> Board<'a, K, T> {
 
     // Writes the cell of a number that was given.
     pub(super) fn write(&mut self, number: u16, cell: Cell<K::Fields, T>)
+        requires { ∥ CellNamed self.old.count cell ∥₁ }
         ensures { Rewritten self.old self.new (written_at self.old number cell) }
     {
         if number == 0 {
             return;
         }
         let at = (number - 1) as usize;
-        let count = self.count();
-        if at >= count {
+        if at >= self.count {
             return;
         }
         self.cells[at] = cell;

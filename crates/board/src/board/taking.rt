@@ -1,7 +1,7 @@
 // A request more.
 ghost use Rattle.std.specs.Prelude.{◌≡◌, suc, if◌then◌else◌, nat_le, slice_set};
 ghost use Rattle.rules.specs.Queues.{given};
-ghost use Rattle.board.specs.Of.{board_state, Kept, Named};
+ghost use Rattle.board.specs.Of.{board_state, row_length};
 ghost use Rattle.board.specs.Taken.{fresh_cell, taken};
 ghost use Rattle.board.specs.Written.{Rewritten};
 
@@ -42,22 +42,20 @@ impl<'a, K: Key, T: Tally<K>> Board<'a, K, T> {
     // Takes a request: it gets the next number and joins the gate's queue, and its station holds it.
     // Where all numbers are given nothing is taken.
     pub fn take(&mut self, station: Station, request: Request<K>)
-        ensures after { Named self.old → board_state K.Key T.Tally self.new ≡ (if nat_le (board_state K.Key T.Tally self.old).capacity (given (board_state K.Key T.Tally self.old)) then board_state K.Key T.Tally self.old else taken (board_state K.Key T.Tally self.old) station.number request) }
-        ensures frame { Kept self.old self.new }
+        ensures after { board_state K.Key T.Tally self.new ≡ (if nat_le (board_state K.Key T.Tally self.old).capacity (given (board_state K.Key T.Tally self.old)) then board_state K.Key T.Tally self.old else taken (board_state K.Key T.Tally self.old) station.number request) }
+        ensures row { row_length self.new ≡ row_length self.old }
     {
         let count = self.count;
         if count >= self.capacity() {
             return;
         }
-        let note = self.desks.of(station).note;
+        let desk = (station.number() - 1) as usize;
+        let note = self.desks[desk].note;
         self.lay(fresh::<K, T>(station, request));
-        self.desks.put(
-            station,
-            Desk {
-                note,
-                uncollected: Some((count + 1) as u16),
-            },
-        );
+        self.desks[desk] = Desk {
+            note,
+            uncollected: Some((count + 1) as u16),
+        };
         self.count = count + 1;
     }
 

@@ -1,12 +1,12 @@
 // Single changes of requests and places: each writes one cell, or the gate.
-ghost use Rattle.std.specs.Prelude.{◌≡◌, length, if◌then◌else◌};
+ghost use Rattle.std.specs.Prelude.{◌≡◌, if◌then◌else◌};
 ghost use Rattle.rules.specs.Changes.{with_decision, with_answer};
 ghost use Rattle.rules.specs.Kinds.{kinds_of};
 ghost use Rattle.rules.specs.Moves.{with_added, with_slot_for, with_joined};
 ghost use Rattle.rules.specs.Queues.{given};
 ghost use Rattle.cells.specs.Outcomes.{answer_of};
-ghost use Rattle.board.specs.Of.{board_state, Kept, if_given};
-ghost use Rattle.board.specs.Cells.{live, names, slot_of};
+ghost use Rattle.board.specs.Of.{board_state, row_length, if_given};
+ghost use Rattle.board.specs.Cells.{names, slot_of};
 ghost use Rattle.board.specs.Made.{made_after};
 
 use super::Board;
@@ -18,7 +18,7 @@ impl<'a, K: Key, T: Tally<K>> Board<'a, K, T> {
     // Writes whether the key of a request was present just before it.
     pub fn decide(&mut self, number: u16, present: bool)
         ensures after { board_state K.Key T.Tally self.new ≡ if_given (board_state K.Key T.Tally self.old) number (with_decision (board_state K.Key T.Tally self.old) number present) }
-        ensures frame { Kept self.old self.new }
+        ensures row { row_length self.new ≡ row_length self.old }
     {
         let Some(cell) = self.cell(number) else {
             return;
@@ -35,7 +35,7 @@ impl<'a, K: Key, T: Tally<K>> Board<'a, K, T> {
     // Writes the answer of a request that is no count.
     pub fn answer(&mut self, number: u16, outcome: Outcome)
         ensures after { board_state K.Key T.Tally self.new ≡ if_given (board_state K.Key T.Tally self.old) number (with_answer (board_state K.Key T.Tally self.old) number (answer_of outcome)) }
-        ensures frame { Kept self.old self.new }
+        ensures row { row_length self.new ≡ row_length self.old }
     {
         let Some(cell) = self.cell(number) else {
             return;
@@ -52,7 +52,7 @@ impl<'a, K: Key, T: Tally<K>> Board<'a, K, T> {
     // Joins a weight to a count's tally.
     pub fn add(&mut self, number: u16, weight: T)
         ensures after { board_state K.Key T.Tally self.new ≡ if_given (board_state K.Key T.Tally self.old) number (with_added (kinds_of K.Key T.Tally) (board_state K.Key T.Tally self.old) number weight) }
-        ensures frame { Kept self.old self.new }
+        ensures row { row_length self.new ≡ row_length self.old }
     {
         let Some(cell) = self.cell(number) else {
             return;
@@ -69,7 +69,7 @@ impl<'a, K: Key, T: Tally<K>> Board<'a, K, T> {
     // Joins a weight to a place's tally.
     pub fn join_tally(&mut self, number: u16, weight: T)
         ensures after { board_state K.Key T.Tally self.new ≡ with_joined (kinds_of K.Key T.Tally) (board_state K.Key T.Tally self.old) number weight }
-        ensures frame { Kept self.old self.new }
+        ensures row { row_length self.new ≡ row_length self.old }
     {
         let Some(cell) = self.cell(number) else {
             return;
@@ -86,7 +86,7 @@ impl<'a, K: Key, T: Tally<K>> Board<'a, K, T> {
     // Writes the slot on a key's side, unless it would name a request that was never submitted.
     pub fn put_slot(&mut self, number: u16, key: K, slot: Slot)
         ensures after { board_state K.Key T.Tally self.new ≡ (if names (given (board_state K.Key T.Tally self.old)) slot then with_slot_for (kinds_of K.Key T.Tally) (board_state K.Key T.Tally self.old) number key (slot_of K.Key T.Tally self.old slot) else board_state K.Key T.Tally self.old) }
-        ensures frame { Kept self.old self.new }
+        ensures row { row_length self.new ≡ row_length self.old }
     {
         if !self.is_named(slot) {
             return;
@@ -116,10 +116,10 @@ impl<'a, K: Key, T: Tally<K>> Board<'a, K, T> {
 
     // Whether a slot names no key of a request that was never submitted.
     fn is_named(&self, slot: Slot) -> bool
-        ensures { result ≡ names (length (live self.now)) slot }
+        ensures { result ≡ names self.now.count slot }
     {
         match slot {
-            Slot::Key(name) => name as usize <= self.count(),
+            Slot::Key(name) => name as usize <= self.count,
             Slot::Empty | Slot::Place(_) => true,
         }
     }
@@ -127,7 +127,7 @@ impl<'a, K: Key, T: Tally<K>> Board<'a, K, T> {
     // Makes the place of a request from its key and the key that another number names.
     pub fn make(&mut self, number: u16, other: u16)
         ensures after { board_state K.Key T.Tally self.new ≡ made_after K.Key T.Tally self.old number other }
-        ensures frame { Kept self.old self.new }
+        ensures row { row_length self.new ≡ row_length self.old }
     {
         let Some(cell) = self.cell(number) else {
             return;

@@ -1,12 +1,12 @@
 -- The note's request heads the queue still, so it is carried.
-use Rattle.std.proofs.Common.{◌≡◌, ℕ, Some, sym, refl, ap, ◌∙◌, subst}
+use Rattle.std.proofs.Common.{◌≡◌, Some, sym, ap, ◌∙◌}
 use Rattle.rules.specs.declared.carried.Carried.{Carried}
 use Rattle.rules.specs.declared.note.Note.TheVariants as note
 use Rattle.rules.specs.Carries.{carried}
 use Rattle.rules.specs.Kinds.{kinds_of}
 use Rattle.rules.specs.Queues.{head_of, numbered}
 use Rattle.rules.specs.Sound.{Sound}
-use Rattle.rules.specs.States.{State, Waiter}
+use Rattle.rules.specs.States.{State}
 use Rattle.board.specs.Of.{board_state}
 use Rattle.carrying.specs.Notes.{note_request, note_place}
 use Rattle.carrying.proofs.Heads.{headed, seen}
@@ -21,18 +21,18 @@ returns-then-first-request g c =
     let asked = c.in-Saw-Some-default-Some.asked in
     let saw : c.note-note.result ≡ note.Saw t p = c.in-Saw-Some-default-Some.is-0 in
     let noted : (s.desk n).note ≡ note.Saw t p = sym c.note-note.ensures ∙ saw in
-    let place : c.noted-place.result ≡ p = c.noted-place.ensures ∙ ap note_place saw in
-    let number : c.noted-request-2.result ≡ t = c.noted-request-2.ensures ∙ ap note_request saw in
+    let place : c.noted_place.result ≡ p = c.noted_place.ensures ∙ ap note_place saw in
+    let number : c.noted_request-2.result ≡ t = c.noted_request-2.ensures ∙ ap note_request saw in
     let num : numbered s.requests t ≡ Some asked = ap (numbered s.requests) (sym number) ∙ sym c.request-asked.ensures ∙ c.in-Saw-Some-default-Some.is-3 in
     let first : Sound s → head_of (s.queue p) ≡ Some t = λ sound. ap (λ v. head_of (s.queue v)) (sym place) ∙ sym (c.head-first.ensures sound) ∙ c.in-Saw-Some-default-Some.is-1 ∙ ap Some c.if-first-request.true in
     record {
       answer = λ sound.
           let h = headed (kinds_of g.K.Key g.T.Tally) s n (s.queue p) t (first sound) in
-          c.carry-head.ensures.answer h.0 h.3
+          c.carry_head.ensures.answer h.0 h.3
           ∙ ap (λ (v : Carried × State g.row.K.Denot g.row.T.Denot). v.0) (seen (kinds_of g.K.Key g.T.Tally) s n t p h.0 h.1 asked h.2 h.3 num ∙ ap (carried (kinds_of g.K.Key g.T.Tally) s n) (sym noted));
       after = λ sound.
           let h = headed (kinds_of g.K.Key g.T.Tally) s n (s.queue p) t (first sound) in
-          c.carry-head.ensures.after sound h.0 h.1 h.2 h.3 num
+          c.carry_head.ensures.after sound h.0 h.1 h.2 h.3 num
           ∙ ap (λ (v : Carried × State g.row.K.Denot g.row.T.Denot). v.1) (seen (kinds_of g.K.Key g.T.Tally) s n t p h.0 h.1 asked h.2 h.3 num ∙ ap (carried (kinds_of g.K.Key g.T.Tally) s n) (sym noted));
-      row = c.carry-head.ensures.row;
+      row = c.carry_head.ensures.row;
     }

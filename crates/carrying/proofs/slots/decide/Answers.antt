@@ -1,5 +1,5 @@
 -- The decision is written, then the note dropped.
-use Rattle.std.proofs.Common.{◌≡◌, refl, ap, ◌∙◌}
+use Rattle.std.proofs.Common.{refl, ap, ◌∙◌}
 use Rattle.rules.specs.declared.note.Note.TheVariants as note
 use Rattle.rules.specs.Changes.{with_decision, with_note}
 use Rattle.board.specs.Of.{board_state}
@@ -12,7 +12,7 @@ returns g c =
     record {
       answer = refl;
       after = λ r num.
-          c.set-note.ensures.after
+          c.set_note.ensures.after
           ∙ ap (λ v. with_note v c.args.station.number note.None) (c.decide.ensures.after ∙ given_then s c.args.number r (with_decision s c.args.number c.args.present) num);
-      row = c.set-note.ensures.row ∙ c.decide.ensures.row;
+      row = c.set_note.ensures.row ∙ c.decide.ensures.row;
     }

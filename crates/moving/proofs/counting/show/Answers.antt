@@ -1,5 +1,5 @@
 -- At a place the count waits there.
-use Rattle.std.proofs.Common.{◌≡◌, Some, sym, ap, ◌∙◌}
+use Rattle.std.proofs.Common.{◌≡◌, sym, ap, ◌∙◌}
 use Rattle.requests.specs.declared.request.Request.TheVariants.{Count}
 use Rattle.rules.specs.Changes.{with_waiter}
 use Rattle.rules.specs.Kinds.{kinds_of}

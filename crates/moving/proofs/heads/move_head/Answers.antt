@@ -20,7 +20,7 @@ returns-then-present g c =
           let asked = c.in-Enter.is in
           let own : numbered (board_state g.K.Key g.T.Tally b).requests c.args.number ≡ Some (Enter c.in-Enter.key) = num ∙ ap Some asked in
           let gone = has_left g.K.Key g.T.Tally b c.args.number c.args.place e q line is (Enter c.in-Enter.key) own c.leave.new.self c.leave.ensures.after in
-          let told : is_present ((board_state g.K.Key g.T.Tally b).decision e.number) ≡ true = ap (λ i. is_present ((board_state g.K.Key g.T.Tally b).decision i)) is ∙ sym (ap is_present c.decision.ensures) ∙ sym c.was-present-present.ensures ∙ c.if-present.true in
+          let told : is_present ((board_state g.K.Key g.T.Tally b).decision e.number) ≡ true = ap (λ i. is_present ((board_state g.K.Key g.T.Tally b).decision i)) is ∙ sym (ap is_present c.decision.ensures) ∙ sym c.was_present-present.ensures ∙ c.if-present.true in
           answers g.K.Key g.T.Tally b c.args.number c.args.place e q line is (Enter c.in-Enter.key) own c.leave.new.self c.answer.new.self Unchanged gone c.answer.ensures.after
           ∙ ap (λ v. cond v (with_answer (with_queue (board_state g.K.Key g.T.Tally b) c.args.place (behind ((board_state g.K.Key g.T.Tally b).queue c.args.place))) e.number Unchanged) (enter_at (kinds_of g.K.Key g.T.Tally) (with_queue (board_state g.K.Key g.T.Tally b) c.args.place (behind ((board_state g.K.Key g.T.Tally b).queue c.args.place))) e.number c.args.place c.in-Enter.key (slot_for (kinds_of g.K.Key g.T.Tally) (with_queue (board_state g.K.Key g.T.Tally b) c.args.place (behind ((board_state g.K.Key g.T.Tally b).queue c.args.place))) c.args.place c.in-Enter.key))) (sym told)
           ∙ ap (λ v. moved (kinds_of g.K.Key g.T.Tally) (board_state g.K.Key g.T.Tally b) c.args.place e v) (sym asked);
@@ -35,7 +35,7 @@ returns-else-present g c =
           let asked = c.in-Enter.is in
           let own : numbered (board_state g.K.Key g.T.Tally b).requests c.args.number ≡ Some (Enter c.in-Enter.key) = num ∙ ap Some asked in
           let gone = has_left g.K.Key g.T.Tally b c.args.number c.args.place e q line is (Enter c.in-Enter.key) own c.leave.new.self c.leave.ensures.after in
-          let told : is_present ((board_state g.K.Key g.T.Tally b).decision e.number) ≡ false = ap (λ i. is_present ((board_state g.K.Key g.T.Tally b).decision i)) is ∙ sym (ap is_present c.decision.ensures) ∙ sym c.was-present-present.ensures ∙ c.if-present.false in
+          let told : is_present ((board_state g.K.Key g.T.Tally b).decision e.number) ≡ false = ap (λ i. is_present ((board_state g.K.Key g.T.Tally b).decision i)) is ∙ sym (ap is_present c.decision.ensures) ∙ sym c.was_present-present.ensures ∙ c.if-present.false in
           c.enter.ensures.after (still_given g.K.Key g.T.Tally b c.args.number c.args.place e q line is (Enter c.in-Enter.key) own c.leave.new.self gone) (passes g.K.Key g.T.Tally b c.args.number c.args.place e q line is (Enter c.in-Enter.key) own sound refl c.in-Enter.key c.leave.new.self gone)
           ∙ ap (λ z. enter_at (kinds_of g.K.Key g.T.Tally) z c.args.number c.args.place c.in-Enter.key (slot_for (kinds_of g.K.Key g.T.Tally) z c.args.place c.in-Enter.key)) gone
           ∙ ap (λ i. enter_at (kinds_of g.K.Key g.T.Tally) (with_queue (board_state g.K.Key g.T.Tally b) c.args.place (behind ((board_state g.K.Key g.T.Tally b).queue c.args.place))) i c.args.place c.in-Enter.key (slot_for (kinds_of g.K.Key g.T.Tally) (with_queue (board_state g.K.Key g.T.Tally b) c.args.place (behind ((board_state g.K.Key g.T.Tally b).queue c.args.place))) c.args.place c.in-Enter.key)) (sym is)
@@ -52,7 +52,7 @@ returns-then-present-2 g c =
           let asked = c.in-Withdraw.is in
           let own : numbered (board_state g.K.Key g.T.Tally b).requests c.args.number ≡ Some (Withdraw c.in-Withdraw.key) = num ∙ ap Some asked in
           let gone = has_left g.K.Key g.T.Tally b c.args.number c.args.place e q line is (Withdraw c.in-Withdraw.key) own c.leave.new.self c.leave.ensures.after in
-          let told : is_present ((board_state g.K.Key g.T.Tally b).decision e.number) ≡ true = ap (λ i. is_present ((board_state g.K.Key g.T.Tally b).decision i)) is ∙ sym (ap is_present c.decision.ensures) ∙ sym c.was-present-present.ensures ∙ c.if-present-2.true in
+          let told : is_present ((board_state g.K.Key g.T.Tally b).decision e.number) ≡ true = ap (λ i. is_present ((board_state g.K.Key g.T.Tally b).decision i)) is ∙ sym (ap is_present c.decision.ensures) ∙ sym c.was_present-present.ensures ∙ c.if-present-2.true in
           c.withdraw.ensures.after (still_given g.K.Key g.T.Tally b c.args.number c.args.place e q line is (Withdraw c.in-Withdraw.key) own c.leave.new.self gone) (passes g.K.Key g.T.Tally b c.args.number c.args.place e q line is (Withdraw c.in-Withdraw.key) own sound refl c.in-Withdraw.key c.leave.new.self gone)
           ∙ ap (λ z. withdraw_at (kinds_of g.K.Key g.T.Tally) z c.args.number c.args.place c.in-Withdraw.key (slot_for (kinds_of g.K.Key g.T.Tally) z c.args.place c.in-Withdraw.key)) gone
           ∙ ap (λ i. withdraw_at (kinds_of g.K.Key g.T.Tally) (with_queue (board_state g.K.Key g.T.Tally b) c.args.place (behind ((board_state g.K.Key g.T.Tally b).queue c.args.place))) i c.args.place c.in-Withdraw.key (slot_for (kinds_of g.K.Key g.T.Tally) (with_queue (board_state g.K.Key g.T.Tally b) c.args.place (behind ((board_state g.K.Key g.T.Tally b).queue c.args.place))) c.args.place c.in-Withdraw.key)) (sym is)
@@ -69,7 +69,7 @@ returns-else-present-2 g c =
           let asked = c.in-Withdraw.is in
           let own : numbered (board_state g.K.Key g.T.Tally b).requests c.args.number ≡ Some (Withdraw c.in-Withdraw.key) = num ∙ ap Some asked in
           let gone = has_left g.K.Key g.T.Tally b c.args.number c.args.place e q line is (Withdraw c.in-Withdraw.key) own c.leave.new.self c.leave.ensures.after in
-          let told : is_present ((board_state g.K.Key g.T.Tally b).decision e.number) ≡ false = ap (λ i. is_present ((board_state g.K.Key g.T.Tally b).decision i)) is ∙ sym (ap is_present c.decision.ensures) ∙ sym c.was-present-present.ensures ∙ c.if-present-2.false in
+          let told : is_present ((board_state g.K.Key g.T.Tally b).decision e.number) ≡ false = ap (λ i. is_present ((board_state g.K.Key g.T.Tally b).decision i)) is ∙ sym (ap is_present c.decision.ensures) ∙ sym c.was_present-present.ensures ∙ c.if-present-2.false in
           answers g.K.Key g.T.Tally b c.args.number c.args.place e q line is (Withdraw c.in-Withdraw.key) own c.leave.new.self c.answer-else-present-2.new.self Unchanged gone c.answer-else-present-2.ensures.after
           ∙ ap (λ v. cond v (withdraw_at (kinds_of g.K.Key g.T.Tally) (with_queue (board_state g.K.Key g.T.Tally b) c.args.place (behind ((board_state g.K.Key g.T.Tally b).queue c.args.place))) e.number c.args.place c.in-Withdraw.key (slot_for (kinds_of g.K.Key g.T.Tally) (with_queue (board_state g.K.Key g.T.Tally b) c.args.place (behind ((board_state g.K.Key g.T.Tally b).queue c.args.place))) c.args.place c.in-Withdraw.key)) (with_answer (with_queue (board_state g.K.Key g.T.Tally b) c.args.place (behind ((board_state g.K.Key g.T.Tally b).queue c.args.place))) e.number Unchanged)) (sym told)
           ∙ ap (λ v. moved (kinds_of g.K.Key g.T.Tally) (board_state g.K.Key g.T.Tally b) c.args.place e v) (sym asked);
@@ -84,7 +84,7 @@ returns-then-present-3 g c =
           let asked = c.in-LookUp.is in
           let own : numbered (board_state g.K.Key g.T.Tally b).requests c.args.number ≡ Some (LookUp c.in-LookUp.field-0) = num ∙ ap Some asked in
           let gone = has_left g.K.Key g.T.Tally b c.args.number c.args.place e q line is (LookUp c.in-LookUp.field-0) own c.leave.new.self c.leave.ensures.after in
-          let told : is_present ((board_state g.K.Key g.T.Tally b).decision e.number) ≡ true = ap (λ i. is_present ((board_state g.K.Key g.T.Tally b).decision i)) is ∙ sym (ap is_present c.decision.ensures) ∙ sym c.was-present-present.ensures ∙ c.if-present-3.true in
+          let told : is_present ((board_state g.K.Key g.T.Tally b).decision e.number) ≡ true = ap (λ i. is_present ((board_state g.K.Key g.T.Tally b).decision i)) is ∙ sym (ap is_present c.decision.ensures) ∙ sym c.was_present-present.ensures ∙ c.if-present-3.true in
           answers g.K.Key g.T.Tally b c.args.number c.args.place e q line is (LookUp c.in-LookUp.field-0) own c.leave.new.self c.answer-then-present-3.new.self Present gone c.answer-then-present-3.ensures.after
           ∙ ap (λ v. with_answer (with_queue (board_state g.K.Key g.T.Tally b) c.args.place (behind ((board_state g.K.Key g.T.Tally b).queue c.args.place))) e.number (cond v Present Absent)) (sym told)
           ∙ ap (λ v. moved (kinds_of g.K.Key g.T.Tally) (board_state g.K.Key g.T.Tally b) c.args.place e v) (sym asked);
@@ -99,7 +99,7 @@ returns-else-present-3 g c =
           let asked = c.in-LookUp.is in
           let own : numbered (board_state g.K.Key g.T.Tally b).requests c.args.number ≡ Some (LookUp c.in-LookUp.field-0) = num ∙ ap Some asked in
           let gone = has_left g.K.Key g.T.Tally b c.args.number c.args.place e q line is (LookUp c.in-LookUp.field-0) own c.leave.new.self c.leave.ensures.after in
-          let told : is_present ((board_state g.K.Key g.T.Tally b).decision e.number) ≡ false = ap (λ i. is_present ((board_state g.K.Key g.T.Tally b).decision i)) is ∙ sym (ap is_present c.decision.ensures) ∙ sym c.was-present-present.ensures ∙ c.if-present-3.false in
+          let told : is_present ((board_state g.K.Key g.T.Tally b).decision e.number) ≡ false = ap (λ i. is_present ((board_state g.K.Key g.T.Tally b).decision i)) is ∙ sym (ap is_present c.decision.ensures) ∙ sym c.was_present-present.ensures ∙ c.if-present-3.false in
           answers g.K.Key g.T.Tally b c.args.number c.args.place e q line is (LookUp c.in-LookUp.field-0) own c.leave.new.self c.answer-else-present-3.new.self Absent gone c.answer-else-present-3.ensures.after
           ∙ ap (λ v. with_answer (with_queue (board_state g.K.Key g.T.Tally b) c.args.place (behind ((board_state g.K.Key g.T.Tally b).queue c.args.place))) e.number (cond v Present Absent)) (sym told)
           ∙ ap (λ v. moved (kinds_of g.K.Key g.T.Tally) (board_state g.K.Key g.T.Tally b) c.args.place e v) (sym asked);
@@ -118,10 +118,10 @@ returns-in-Count g c =
           subst (λ z. Counts z c.args.number c.args.place c.args.mode) (sym gone)
           (subst (λ i. Counts (with_queue (board_state g.K.Key g.T.Tally b) c.args.place (behind ((board_state g.K.Key g.T.Tally b).queue c.args.place))) i c.args.place c.args.mode) is
           (subst (Counts (with_queue (board_state g.K.Key g.T.Tally b) c.args.place (behind ((board_state g.K.Key g.T.Tally b).queue c.args.place))) e.number c.args.place) mode (may_count (kinds_of g.K.Key g.T.Tally) (board_state g.K.Key g.T.Tally b) sound c.args.place e q line c.in-Count.lo c.in-Count.hi (ap (numbered (board_state g.K.Key g.T.Tally b).requests) is ∙ own)))) in
-          c.count-at.ensures.after (still_given g.K.Key g.T.Tally b c.args.number c.args.place e q line is (Count c.in-Count.lo c.in-Count.hi) own c.leave.new.self gone) many
+          c.count_at.ensures.after (still_given g.K.Key g.T.Tally b c.args.number c.args.place e q line is (Count c.in-Count.lo c.in-Count.hi) own c.leave.new.self gone) many
           ∙ ap (λ z. count_at (kinds_of g.K.Key g.T.Tally) z c.args.number c.args.place c.in-Count.lo c.in-Count.hi c.args.mode) gone
           ∙ ap (λ i. count_at (kinds_of g.K.Key g.T.Tally) (with_queue (board_state g.K.Key g.T.Tally b) c.args.place (behind ((board_state g.K.Key g.T.Tally b).queue c.args.place))) i c.args.place c.in-Count.lo c.in-Count.hi c.args.mode) (sym is)
           ∙ ap (count_at (kinds_of g.K.Key g.T.Tally) (with_queue (board_state g.K.Key g.T.Tally b) c.args.place (behind ((board_state g.K.Key g.T.Tally b).queue c.args.place))) e.number c.args.place c.in-Count.lo c.in-Count.hi) (sym mode)
           ∙ ap (λ v. moved (kinds_of g.K.Key g.T.Tally) (board_state g.K.Key g.T.Tally b) c.args.place e v) (sym asked);
-      row = c.count-at.ensures.row ∙ c.leave.ensures.row;
+      row = c.count_at.ensures.row ∙ c.leave.ensures.row;
     }

@@ -12,12 +12,12 @@ loop-index-preserved g c =
     let s = board_state g.K.Key g.T.Tally c.args.board.now in
     elim c.match-new.branch [
       | goal.in-Ok w ↦ (
-        (let before = c.loop-index.invariant.0 in let few = w.held-unfinished-waiting.ensures.few in let is = w.waiting-is in omega arith),
+        (let before = c.loop-index.invariant.0 in let few = w.held_unfinished-waiting.ensures.few in let is = w.waiting-is in omega arith),
         λ h.
-            count_next (unfinished_held s) c.loop-index.index w.in-Ok.station.number c.loop-index.waiting w.held-unfinished-waiting.result c.match-new.waiting
-            (c.loop-index.invariant.1 h) w.in-Ok.ensures.0 (w.held-unfinished-waiting.ensures.counted h) w.waiting-is,
+            count_next (unfinished_held s) c.loop-index.index w.in-Ok.station.number c.loop-index.waiting w.held_unfinished-waiting.result c.match-new.waiting
+            (c.loop-index.invariant.1 h) w.in-Ok.ensures.0 (w.held_unfinished-waiting.ensures.counted h) w.waiting-is,
       )
-      | goal.in-default w ↦ absurd (station_there c.loop-index.index c.loop-index-test.true w.in-default.ensures.1)
+      | goal.in_default w ↦ absurd (station_there c.loop-index.index c.loop-index-test.true w.in_default.ensures.1)
     ]
 
 pub returns : goal.returns

@@ -12,9 +12,9 @@ loop-index-preserved g c =
     let s = board_state g.K.Key g.T.Tally c.args.board.now in
     elim c.match-new.branch [
       | goal.in-Ok w ↦
-          chosen_next min (held_at s c.args.place) c.loop-index.index w.in-Ok.station.number c.loop-index.first w.held-at.result w.lesser_first.result c.match-new.first
-          c.loop-index.invariant w.in-Ok.ensures.0 w.held-at.ensures w.lesser_first.ensures w.first-is
-      | goal.in-default w ↦ absurd (station_there c.loop-index.index c.loop-index-test.true w.in-default.ensures.1)
+          chosen_next min (held_at s c.args.place) c.loop-index.index w.in-Ok.station.number c.loop-index.first w.held_at.result w.lesser-first.result c.match-new.first
+          c.loop-index.invariant w.in-Ok.ensures.0 w.held_at.ensures w.lesser-first.ensures w.first-is
+      | goal.in_default w ↦ absurd (station_there c.loop-index.index c.loop-index-test.true w.in_default.ensures.1)
     ]
 
 pub returns : goal.returns

@@ -14,9 +14,9 @@ loop-index-preserved g c =
     let held = word_held (kinds_of g.K.Key g.T.Tally) s c.args.key c.args.place in
     elim c.match-new.branch [
       | goal.in-Ok w ↦
-          chosen_next max held c.loop-index.index w.in-Ok.station.number c.loop-index.last w.held-word.result w.greater-last.result c.match-new.last
-          c.loop-index.invariant w.in-Ok.ensures.0 w.held-word.ensures w.greater-last.ensures w.last-is
-      | goal.in-default w ↦ absurd (station_there c.loop-index.index c.loop-index-test.true w.in-default.ensures.1)
+          chosen_next max held c.loop-index.index w.in-Ok.station.number c.loop-index.last w.held_word.result w.greater-last.result c.match-new.last
+          c.loop-index.invariant w.in-Ok.ensures.0 w.held_word.ensures w.greater-last.ensures w.last-is
+      | goal.in_default w ↦ absurd (station_there c.loop-index.index c.loop-index-test.true w.in_default.ensures.1)
     ]
 
 pub returns-in-None : goal.returns-in-None
@@ -27,4 +27,4 @@ returns-in-None g c = λ h.
 pub returns-in-Some : goal.returns-in-Some
 returns-in-Some g c = λ h.
     held_words (kinds_of g.K.Key g.T.Tally) (board_state g.K.Key g.T.Tally c.args.board.now) c.args.key c.args.place h
-    c.loop-index.index c.loop-index.last (Some c.in-Some.number) c.word-on.result c.loop-index.auto.index-end c.loop-index-test.false c.loop-index.invariant c.in-Some.is c.word-on.ensures
+    c.loop-index.index c.loop-index.last (Some c.in-Some.number) c.word_on.result c.loop-index.auto.index-end c.loop-index-test.false c.loop-index.invariant c.in-Some.is c.word_on.ensures

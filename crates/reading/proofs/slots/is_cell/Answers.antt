@@ -1,5 +1,5 @@
 -- Numbers from 1 to the length are those of cells.
-use Rattle.std.proofs.Common.{◌≡◌, true, false, ltb, is_some, sym, ap, ◌∙◌, true≢false, arith}
+use Rattle.std.proofs.Common.{◌≡◌, false, ltb, is_some, sym, ap, ◌∙◌, true≢false, arith}
 use Rattle.std.proofs.lemmas.Bool.{leb-true, le-ltb}
 use Rattle.reading.proofs.Numbers.{number_test, numbered_zero}
 use Rattle.reading.proofs.slots.is_cell.Goals as goal

@@ -1,5 +1,5 @@
 -- A word of at most seven letters.
-use Rattle.std.proofs.Common.{◌≡◌, length, ap, ◌∙◌, arith}
+use Rattle.std.proofs.Common.{length, ap, ◌∙◌, arith}
 use Rattle.replies.proofs.Lengths.{carried-length}
 use Rattle.replies.proofs.Pasted.{puts_same}
 use Rattle.replies.proofs.writing.put_carried.Goals as goal

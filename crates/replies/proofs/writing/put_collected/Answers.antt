@@ -1,5 +1,5 @@
 -- The number, the answer's code, and its tally if it tells one.
-use Rattle.std.proofs.Common.{◌≡◌, length, codes, decimal, ap, arith}
+use Rattle.std.proofs.Common.{length, codes, decimal, ap, arith}
 use Rattle.replies.specs.Texts.{named}
 use Rattle.replies.proofs.Lengths.{five_digits, code_digit, tally-length}
 use Rattle.replies.proofs.Pasted.{puts_more, puts_same}

@@ -1,5 +1,5 @@
 -- A refusal's number has at most two digits.
-use Rattle.std.proofs.Common.{◌≡◌, ◌++◌, length, codes, decimal, ap, arith}
+use Rattle.std.proofs.Common.{length, codes, decimal, ap, arith}
 use Rattle.replies.specs.Texts.{named}
 use Rattle.replies.proofs.Lengths.{refusal_digits}
 use Rattle.replies.proofs.Pasted.{puts_same}

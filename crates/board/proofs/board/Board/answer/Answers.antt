@@ -1,5 +1,5 @@
 -- The outcome of the cell is written.
-use Rattle.std.proofs.Common.{◌≡◌, take, sym, refl, ap, ◌∙◌, arith}
+use Rattle.std.proofs.Common.{take, sym, refl, ◌∙◌}
 use mathlib.Core.Logic.{∥∥₁_map}
 use Rattle.rules.specs.Changes.{with_answer}
 use Rattle.cells.specs.Outcomes.{answer_of}
@@ -9,8 +9,8 @@ use Rattle.board.proofs.Named.{cell_named}
 use Rattle.board.proofs.Boards.{not-given, written-length, written_change}
 use Rattle.board.proofs.board.Board.answer.Goals as goal
 
-pub returns-in-default : goal.returns-in-default
-returns-in-default g c = record { after = not-given g.K.Key g.T.Tally c.args.self.now c.args.number _ (sym c.cell.ensures ∙ c.in-default.is); row = refl }
+pub returns-in_default : goal.returns-in_default
+returns-in_default g c = record { after = not-given g.K.Key g.T.Tally c.args.self.now c.args.number _ (sym c.cell.ensures ∙ c.in_default.is); row = refl }
 
 pub write-requires : goal.write-requires
 write-requires g c =
@@ -24,6 +24,6 @@ returns g c =
     let e = sym c.cell.ensures ∙ c.in-Some.is in
     record {
       after = written_change g.K.Key g.T.Tally b c.write.new.self c.args.number x (cell_answered x c.args.outcome) e c.write.ensures (λ n. with_answer (board_state g.K.Key g.T.Tally b) n (answer_of c.args.outcome))
-          (λ i n h at. shown-answered g.K.Key g.T.Tally b.cells.now b.count b.gate b.desks i x h (omega arith) at c.args.outcome);
+          (λ i n h at. shown-answered g.K.Key g.T.Tally b.cells.now b.count b.gate b.desks i x h at c.args.outcome);
       row = written-length g.K.Key g.T.Tally b c.write.new.self c.args.number x (cell_answered x c.args.outcome) e c.write.ensures;
     }

@@ -12,11 +12,11 @@ use Rattle.board.proofs.Boards.{written-length}
 use Rattle.board.proofs.Places.{place-past, tally-put}
 use Rattle.board.proofs.board.Board.join_tally.Goals as goal
 
-pub returns-in-default : goal.returns-in-default
-returns-in-default g c =
+pub returns-in_default : goal.returns-in_default
+returns-in_default g c =
     let b = c.args.self.now in
     let s = board_state g.K.Key g.T.Tally b in
-    record { after = ap (λ o. elim o as (λ _. State g.row.K.Denot g.row.T.Denot) [ None ↦ s | Some f ↦ with_place s c.args.number (with_tally f (g.T.Tally.joined f.tally c.args.weight)) ]) (sym (place-past g.K.Key g.T.Tally b c.args.number (sym c.cell.ensures ∙ c.in-default.is))); row = refl }
+    record { after = ap (λ o. elim o as (λ _. State g.row.K.Denot g.row.T.Denot) [ None ↦ s | Some f ↦ with_place s c.args.number (with_tally f (g.T.Tally.joined f.tally c.args.weight)) ]) (sym (place-past g.K.Key g.T.Tally b c.args.number (sym c.cell.ensures ∙ c.in_default.is))); row = refl }
 
 pub write-requires : goal.write-requires
 write-requires g c =

@@ -11,4 +11,4 @@ pub returns-then-at-self : goal.returns-then-at-self
 returns-then-at-self g c = let b = c.args.self.now in ap (option_map (λ x. g.K.Key.made x.first)) (sym (at-past b.cells.now b.count c.args.number (omega arith) (omega arith) (omega arith)))
 
 pub returns : goal.returns
-returns g c = let b = c.args.self.now in ap Some c.from-fields.ensures ∙ ap (option_map (λ x. g.K.Key.made x.first)) (sym (at_here b.cells.now b.count c.args.number c.index-cells-at.result (omega arith) (omega arith) (omega arith)))
+returns g c = let b = c.args.self.now in ap Some c.from_fields.ensures ∙ ap (option_map (λ x. g.K.Key.made x.first)) (sym (at_here b.cells.now b.count c.args.number c.index-cells-at.result (omega arith) (omega arith) (omega arith)))

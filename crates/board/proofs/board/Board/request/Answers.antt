@@ -17,8 +17,8 @@ returns-in-Enter g c =
     let x = (get_or b.cells.now (c.args.number - 1) c.index-cells-at.result) in
     let y = (get_or b.cells.now (c.args.number - 1) c.index-cells-at-2.result) in
     let same = get_any b.cells.now (c.args.number - 1) c.index-cells-at-2.result c.index-cells-at.result (omega arith) in
-    let first : c.from-fields-first.result ≡ g.K.Key.made y.first = c.from-fields-first.ensures in
-    ap Some (enter_asked g.K.Key g.T.Tally x y same c.from-fields-first.result first c.in-Enter.is) ∙ row_some (request_in g.K.Key g.T.Tally) (take b.count b.cells.now) c.args.number x (at_here b.cells.now b.count c.args.number c.index-cells-at.result (omega arith) (omega arith) (omega arith))
+    let first : c.from_fields-first.result ≡ g.K.Key.made y.first = c.from_fields-first.ensures in
+    ap Some (enter_asked g.K.Key g.T.Tally x y same c.from_fields-first.result first c.in-Enter.is) ∙ row_some (request_in g.K.Key g.T.Tally) (take b.count b.cells.now) c.args.number x (at_here b.cells.now b.count c.args.number c.index-cells-at.result (omega arith) (omega arith) (omega arith))
 
 pub returns-in-Withdraw : goal.returns-in-Withdraw
 returns-in-Withdraw g c =
@@ -26,8 +26,8 @@ returns-in-Withdraw g c =
     let x = (get_or b.cells.now (c.args.number - 1) c.index-cells-at.result) in
     let y = (get_or b.cells.now (c.args.number - 1) c.index-cells-at-2.result) in
     let same = get_any b.cells.now (c.args.number - 1) c.index-cells-at-2.result c.index-cells-at.result (omega arith) in
-    let first : c.from-fields-first.result ≡ g.K.Key.made y.first = c.from-fields-first.ensures in
-    ap Some (withdraw_asked g.K.Key g.T.Tally x y same c.from-fields-first.result first c.in-Withdraw.is) ∙ row_some (request_in g.K.Key g.T.Tally) (take b.count b.cells.now) c.args.number x (at_here b.cells.now b.count c.args.number c.index-cells-at.result (omega arith) (omega arith) (omega arith))
+    let first : c.from_fields-first.result ≡ g.K.Key.made y.first = c.from_fields-first.ensures in
+    ap Some (withdraw_asked g.K.Key g.T.Tally x y same c.from_fields-first.result first c.in-Withdraw.is) ∙ row_some (request_in g.K.Key g.T.Tally) (take b.count b.cells.now) c.args.number x (at_here b.cells.now b.count c.args.number c.index-cells-at.result (omega arith) (omega arith) (omega arith))
 
 pub returns-in-LookUp : goal.returns-in-LookUp
 returns-in-LookUp g c =
@@ -35,8 +35,8 @@ returns-in-LookUp g c =
     let x = (get_or b.cells.now (c.args.number - 1) c.index-cells-at.result) in
     let y = (get_or b.cells.now (c.args.number - 1) c.index-cells-at-2.result) in
     let same = get_any b.cells.now (c.args.number - 1) c.index-cells-at-2.result c.index-cells-at.result (omega arith) in
-    let first : c.from-fields-first.result ≡ g.K.Key.made y.first = c.from-fields-first.ensures in
-    ap Some (look_up_asked g.K.Key g.T.Tally x y same c.from-fields-first.result first c.in-LookUp.is) ∙ row_some (request_in g.K.Key g.T.Tally) (take b.count b.cells.now) c.args.number x (at_here b.cells.now b.count c.args.number c.index-cells-at.result (omega arith) (omega arith) (omega arith))
+    let first : c.from_fields-first.result ≡ g.K.Key.made y.first = c.from_fields-first.ensures in
+    ap Some (look_up_asked g.K.Key g.T.Tally x y same c.from_fields-first.result first c.in-LookUp.is) ∙ row_some (request_in g.K.Key g.T.Tally) (take b.count b.cells.now) c.args.number x (at_here b.cells.now b.count c.args.number c.index-cells-at.result (omega arith) (omega arith) (omega arith))
 
 pub returns-in-Count : goal.returns-in-Count
 returns-in-Count g c =
@@ -44,8 +44,8 @@ returns-in-Count g c =
     let x = (get_or b.cells.now (c.args.number - 1) c.index-cells-at.result) in
     let y = (get_or b.cells.now (c.args.number - 1) c.index-cells-at-2.result) in
     let same = get_any b.cells.now (c.args.number - 1) c.index-cells-at-2.result c.index-cells-at.result (omega arith) in
-    let first : c.from-fields-first.result ≡ g.K.Key.made y.first = c.from-fields-first.ensures in
+    let first : c.from_fields-first.result ≡ g.K.Key.made y.first = c.from_fields-first.ensures in
     let z = (get_or b.cells.now (c.args.number - 1) c.index-cells-at-in-Count.result) in
     let one = get_any b.cells.now (c.args.number - 1) c.index-cells-at-in-Count.result c.index-cells-at.result (omega arith) in
-    let second : c.from-fields.result ≡ g.K.Key.made z.second = c.from-fields.ensures in
-    ap Some (count_asked g.K.Key g.T.Tally x y same c.from-fields-first.result first z one c.from-fields.result second c.in-Count.is) ∙ row_some (request_in g.K.Key g.T.Tally) (take b.count b.cells.now) c.args.number x (at_here b.cells.now b.count c.args.number c.index-cells-at.result (omega arith) (omega arith) (omega arith))
+    let second : c.from_fields.result ≡ g.K.Key.made z.second = c.from_fields.ensures in
+    ap Some (count_asked g.K.Key g.T.Tally x y same c.from_fields-first.result first z one c.from_fields.result second c.in-Count.is) ∙ row_some (request_in g.K.Key g.T.Tally) (take b.count b.cells.now) c.args.number x (at_here b.cells.now b.count c.args.number c.index-cells-at.result (omega arith) (omega arith) (omega arith))

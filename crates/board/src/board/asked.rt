@@ -21,8 +21,7 @@ impl<'a, K: Key, T: Tally<K>> Board<'a, K, T> {
             return None;
         }
         let at = (number - 1) as usize;
-        let count = self.count();
-        if at >= count {
+        if at >= self.count {
             return None;
         }
         let kind = cells[at].kind;
@@ -44,8 +43,7 @@ impl<'a, K: Key, T: Tally<K>> Board<'a, K, T> {
             return 0;
         }
         let at = (number - 1) as usize;
-        let count = self.count();
-        if at >= count {
+        if at >= self.count {
             return 0;
         }
         cells[at].station
@@ -60,8 +58,7 @@ impl<'a, K: Key, T: Tally<K>> Board<'a, K, T> {
             return None;
         }
         let at = (number - 1) as usize;
-        let count = self.count();
-        if at >= count {
+        if at >= self.count {
             return None;
         }
         cells[at].decision
@@ -76,8 +73,7 @@ impl<'a, K: Key, T: Tally<K>> Board<'a, K, T> {
             return None;
         }
         let at = (number - 1) as usize;
-        let count = self.count();
-        if at >= count {
+        if at >= self.count {
             return None;
         }
         let outcome = cells[at].outcome;
@@ -96,8 +92,7 @@ impl<'a, K: Key, T: Tally<K>> Board<'a, K, T> {
             return T::zero();
         }
         let at = (number - 1) as usize;
-        let count = self.count();
-        if at >= count {
+        if at >= self.count {
             return T::zero();
         }
         cells[at].counted
@@ -112,8 +107,7 @@ impl<'a, K: Key, T: Tally<K>> Board<'a, K, T> {
             return Waits::Nowhere;
         }
         let at = (number - 1) as usize;
-        let count = self.count();
-        if at >= count {
+        if at >= self.count {
             return Waits::Nowhere;
         }
         cells[at].waits
@@ -128,8 +122,7 @@ impl<'a, K: Key, T: Tally<K>> Board<'a, K, T> {
             return None;
         }
         let at = (number - 1) as usize;
-        let count = self.count();
-        if at >= count {
+        if at >= self.count {
             return None;
         }
         Some(K::from_fields(cells[at].first))

@@ -3,7 +3,7 @@ ghost use Rattle.std.specs.Prelude.{◌≡◌, length};
 ghost use Rattle.rules.specs.Kinds.{kinds_of};
 ghost use Rattle.rules.specs.Queues.{given};
 ghost use Rattle.rules.specs.States.{opening};
-ghost use Rattle.board.specs.Of.{board_state};
+ghost use Rattle.board.specs.Of.{board_state, row_length};
 
 use super::Board;
 use cells::{Cell, Desk, Slot};
@@ -17,7 +17,8 @@ const MOST_REQUESTS: usize = 1024;
 impl<'a, K: Key, T: Tally<K>> Board<'a, K, T> {
     // The board over a row of cells, whatever they hold: empty.
     pub fn open(cells: &'a mut [Cell<K::Fields, T>]) -> Board<'a, K, T>
-        ensures { board_state K.Key T.Tally result ≡ opening (kinds_of K.Key T.Tally) (length cells.old) }
+        ensures after { board_state K.Key T.Tally result ≡ opening (kinds_of K.Key T.Tally) (length cells.old) }
+        ensures row { row_length result ≡ length cells.old }
     {
         let desk = Desk {
             note: Note::None,

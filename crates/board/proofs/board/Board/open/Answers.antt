@@ -7,4 +7,4 @@ pub invariant_of-result : goal.invariant_of-result
 invariant_of-result g c = record { room = (omega arith, omega arith); eight = refl; named = ∣ (tt, tt) ∣₁ }
 
 pub returns : goal.returns
-returns g c = opened_state g.K.Key g.T.Tally c.args.cells.now
+returns g c = record { after = opened_state g.K.Key g.T.Tally c.args.cells.now; row = refl }

@@ -1,11 +1,14 @@
 // A carry, by the station's note, the head of the queue and the decision.
-ghost use Rattle.std.specs.Prelude.{◌≡◌, List, ◌∷◌, Some};
+ghost use Rattle.std.specs.Prelude.{◌≡◌, List, ◌∷◌, Some, unwrap_or};
 ghost use Rattle.requests.specs.declared.request.Request.{Request};
 ghost use Rattle.rules.specs.Carries.{at_head, look, carried, sought, last_word};
 ghost use Rattle.rules.specs.Kinds.{kinds_of};
 ghost use Rattle.rules.specs.Queues.{numbered};
 ghost use Rattle.rules.specs.Sound.{Sound};
 ghost use Rattle.rules.specs.States.{Waiter};
+ghost use Rattle.rules.specs.declared.mode.Mode.TheVariants.{Between};
+ghost use Rattle.cells.specs.Rosters.{mode_at};
+ghost use Rattle.board.specs.Cells.{waits_of};
 ghost use Rattle.board.specs.Of.{board_state, row_length};
 ghost use Rattle.carrying.specs.Notes.{gate_key, note_request, note_place};
 
@@ -38,14 +41,12 @@ fn gate_key<K: Key>(place: u16, request: &Request<K>, decision: Option<bool>) ->
     }
 }
 
-// The mode in which the head of a place's queue waits there.
+// The mode in which the head of a place's queue waits there; between where the request does not wait there at all.
 fn head_mode<K: Key, T: Tally<K>>(board: &Board<'_, K, T>, number: u16, place: u16) -> Mode
-    ensures { (e : Waiter) (q : List Waiter) → (board_state K.Key T.Tally board.now).queue place ≡ e ∷ q → e.number ≡ number → result ≡ e.mode }
+    ensures answer { result ≡ unwrap_or (mode_at (waits_of board.now number) place) Between }
+    ensures head { (e : Waiter) (q : List Waiter) → (board_state K.Key T.Tally board.now).queue place ≡ e ∷ q → e.number ≡ number → result ≡ e.mode }
 {
-    match mode_at(board, number, place) {
-        Some(mode) => mode,
-        None => Mode::Between,
-    }
+    mode_at(board, number, place).unwrap_or(Mode::Between)
 }
 
 // The head of a place's queue is decided at the gate if it must be, and else moved.

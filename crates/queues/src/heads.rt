@@ -3,6 +3,8 @@ ghost use Rattle.std.specs.Prelude.{◌≡◌, List, ◌∷◌, Some};
 ghost use Rattle.rules.specs.Queues.{head_of};
 ghost use Rattle.rules.specs.Sound.{Sound};
 ghost use Rattle.rules.specs.States.{Waiter};
+ghost use Rattle.cells.specs.Rosters.{mode_at};
+ghost use Rattle.board.specs.Cells.{waits_of};
 ghost use Rattle.board.specs.Of.{board_state};
 
 use super::chosen::lesser;
@@ -26,13 +28,14 @@ pub fn head<K: Key, T: Tally<K>>(board: &Board<'_, K, T>, place: u16) -> Option<
     first
 }
 
-// The mode in which a request waits at a place.
+// The mode in which a request waits at a place; none where it does not wait there.
 pub fn mode_at<K: Key, T: Tally<K>>(
     board: &Board<'_, K, T>,
     number: u16,
     place: u16,
 ) -> Option<Mode>
-    ensures { (e : Waiter) (q : List Waiter) → (board_state K.Key T.Tally board.now).queue place ≡ e ∷ q → e.number ≡ number → result ≡ Some e.mode }
+    ensures answer { result ≡ mode_at (waits_of board.now number) place }
+    ensures head { (e : Waiter) (q : List Waiter) → (board_state K.Key T.Tally board.now).queue place ≡ e ∷ q → e.number ≡ number → result ≡ Some e.mode }
 {
     board.waits(number).at(place)
 }

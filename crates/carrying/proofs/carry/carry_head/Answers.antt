@@ -20,7 +20,7 @@ returns-in-None g c =
       answer = λ e is. ap (λ (v : Carried × State g.row.K.Denot g.row.T.Denot). v.0) (head_moves (kinds_of g.K.Key g.T.Tally) s c.args.station.number c.args.place e c.args.request (key e is));
       after = λ sound e q line is num.
           c.set_note.ensures.after
-          ∙ ap (λ v. with_note v c.args.station.number note.None) (c.move_head.ensures.after sound e q line is (sym (c.head_mode-mode.ensures e q line is)) num)
+          ∙ ap (λ v. with_note v c.args.station.number note.None) (c.move_head.ensures.after sound e q line is (sym (c.head_mode-mode.ensures.head e q line is)) num)
           ∙ ap (λ (v : Carried × State g.row.K.Denot g.row.T.Denot). v.1) (head_moves (kinds_of g.K.Key g.T.Tally) s c.args.station.number c.args.place e c.args.request (key e is));
       row = c.set_note.ensures.row ∙ c.move_head.ensures.row;
     }

@@ -1,5 +1,5 @@
 // Questions about two keys of any kind that follow from the one that the kind answers.
-ghost use Rattle.std.specs.Prelude.{◌≡◌, true};
+ghost use Rattle.std.specs.Prelude.{◌≡◌, true, ◌&&◌};
 ghost use Rattle.keys.specs.Orders.{below, greater};
 
 use super::key::Key;
@@ -12,9 +12,11 @@ pub fn is_below<K: Key>(a: K, b: K) -> bool
 }
 
 // Whether a and b are one key.
+// Kept: a kind of key answers one question, from which this follows; it need not have `==`.
 pub fn is_same<K: Key>(a: K, b: K) -> bool
     ensures same { result ≡ true → a ≡ b }
     ensures found { a ≡ b → result ≡ true }
+    ensures answer { result ≡ (K.Key.le a b && K.Key.le b a) }
 {
     a.at_most(b) && b.at_most(a)
 }

@@ -4,7 +4,7 @@ ghost use Rattle.requests.specs.Answers.{answer_code, answers};
 
 use super::kind::Kind;
 
-#[derive(Clone, Copy)]
+#[derive(Clone, Copy, PartialEq, Eq, Debug)]
 pub enum Answer<T> {
     // The key was entered or withdrawn.
     Changed,
@@ -17,6 +17,7 @@ pub enum Answer<T> {
 }
 
 impl<T> Answer<T> {
+    // Kept: a code forgets a count's tally, so it is no conversion of the answer.
     pub fn code(&self) -> u8
         ensures { result ≡ answer_code self.now }
     {

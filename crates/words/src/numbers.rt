@@ -22,15 +22,13 @@ fn all_value(word: &[u8]) -> Option<u32>
 {
     let mut value = 0u32;
     for byte in word {
-        if !byte.is_ascii_digit() {
-            return None;
-        }
-        value = value * 10 + (*byte - b'0') as u32;
+        value = value * 10 + char::from(*byte).to_digit(10)?;
     }
     Some(value)
 }
 
 // The number that a word is; none where it is no number.
+// Kept: the library's `parse` takes zeros in front and a plus sign, which a line may not have.
 pub fn number(word: &[u8]) -> Option<u32>
     ensures { result ≡ number_in word.now }
 {

@@ -18,14 +18,13 @@ fn fill(name: &[u8]) -> [u8; 8]
     ensures { result ≡ filled name.now }
 {
     let mut bytes = [0u8; LONGEST_NAME];
-    for (i, byte) in name.iter().enumerate() {
-        bytes[i] = *byte;
-    }
+    bytes[..name.len()].copy_from_slice(name);
     bytes
 }
 
 impl Section {
     // The section of this name, where it is one.
+    // Kept: each kind of key has a `new`, which tests what it is made of; a conversion would hide that this one does, too.
     pub fn new(name: &[u8]) -> Result<Section, Refusal>
         ensures { result ≡ section_of name.now }
     {
@@ -62,12 +61,7 @@ impl Key for Section {
     ghost remade = { λ a. sym (section_kept a a.bytes refl) };
 
     fn at_most(self, other: Section) -> bool {
-        for i in 0..LONGEST_NAME {
-            if self.bytes[i] != other.bytes[i] {
-                return self.bytes[i] < other.bytes[i];
-            }
-        }
-        true
+        self.bytes <= other.bytes
     }
 
     fn fields(self) -> [u8; 8] {

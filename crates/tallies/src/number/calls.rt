@@ -16,6 +16,7 @@ impl Number {
         Number { value }
     }
 
+    // Kept: the field that clauses name, as `tally.value`; a conversion would have no name for it.
     pub fn value(self) -> u32
         ensures { result ≡ self.value }
     {
@@ -50,7 +51,7 @@ impl<K: Key> Tally<K> for Number {
     }
 
     fn opposite(self) -> Number {
-        Number::new(0u32.wrapping_sub(self.value))
+        Number::new(self.value.wrapping_neg())
     }
 
     fn weight(_key: K) -> Number {

@@ -118,11 +118,3 @@ header_known key tally bytes a h =
       long = eqb-true _ _ ends ∙ told;
       headed = known;
     }
-
--- a header of kinds that are not too wide, with room for it: the nine fields decide, and then the end
-pub header-left : (key tally : ℕ) (bytes : List ℕ) → key ≤ 16 → tally ≤ 16 → 36 ≤ length bytes → first_fault (header_checks key tally bytes) ≡ option_or (first_fault (nine_checks key tally bytes)) (first_fault (end_check bytes ∷ []))
-header-left key tally bytes k t l =
-    let widths : (leb key 16 && leb tally 16) ≡ true = grind arith in
-    let enough : leb 36 (length bytes) ≡ true = grind arith in
-    let last : List Check = nine_checks key tally bytes ++ (end_check bytes ∷ []) in
-    first_past (widths_check key tally) (room_check bytes ∷ last) widths ∙ first_past (room_check bytes) last enough ∙ first_append (nine_checks key tally bytes) (end_check bytes ∷ [])

@@ -7,6 +7,7 @@ mod decoding;
 mod fault;
 mod header;
 mod layer;
+mod layout;
 mod opened;
 mod request_rows;
 

@@ -14,7 +14,7 @@ use stored::{StoredKey, StoredTally};
 pub fn kind_numbered(number: u8) -> Option<Kind>
     ensures { result ≡ kind_numbered number }
 {
-    Kind::from_number(number)
+    Kind::try_from(number).ok()
 }
 
 // Whether the bytes are a key.

@@ -27,7 +27,7 @@ impl StoredKey for Route {
         let front = row.first_chunk_mut::<5>().ok_or(Refusal::TooShort)?;
         front[0..2].copy_from_slice(&self.entry().to_be_bytes());
         front[2..4].copy_from_slice(&self.exit().to_be_bytes());
-        front[4] = self.class().number();
+        front[4] = u8::from(self.class());
         Ok(5)
     }
 
@@ -37,6 +37,6 @@ impl StoredKey for Route {
         };
         let entry = u16::from_be_bytes([a, b]);
         let exit = u16::from_be_bytes([c, d]);
-        Route::new(entry as u32, exit as u32, Class::from_number(e)?)
+        Route::new(entry as u32, exit as u32, Class::try_from(e)?)
     }
 }

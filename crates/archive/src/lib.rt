@@ -13,4 +13,5 @@ mod request_rows;
 
 pub use fault::Fault;
 pub use layer::Layer;
+pub use layout::{HEADER_LENGTH, Layout};
 pub use opened::{Archive, Parts};

@@ -74,11 +74,12 @@ impl<K: StoredKey, T: StoredTally<K>> Layout<K, T> {
     pub fn header_fields(&self) -> [u32; 9]
         ensures { result ≡ header_fields self.now.rows K.StoredKey.form.size T.StoredTally.form.size }
     {
+        let (key, tally) = (K::width() as u32, T::width() as u32);
         [
             EDITION,
             self.rows as u32,
-            K::width() as u32,
-            T::width() as u32,
+            key,
+            tally,
             self.request_length() as u32,
             self.answer_length() as u32,
             HEADER_LENGTH as u32,

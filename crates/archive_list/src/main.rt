@@ -14,7 +14,9 @@ fn main(rt: HostRuntime) -> anyhow::Result<()> {
     let path = args.next().context(USAGE)?;
     let keys = keys.as_str().parse::<KeyKind>()?;
     let tallies = tallies.as_str().parse::<TallyKind>()?;
-    let bytes = fs::read(&rt, path.as_str()).context("the file cannot be opened")?;
+    let bytes = fs::read(&rt, path.as_str())
+        .ok()
+        .context("the file cannot be opened")?;
     let text = list(rt.alloc(), keys, tallies, bytes.as_slice())
         .context("classes are counted of routes only")??;
     rt.print(text.as_str())?;

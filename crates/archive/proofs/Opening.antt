@@ -1,5 +1,5 @@
 -- The rows of a file that has no fault. Rests on Files.
-use Rattle.std.proofs.Common.{◌≡◌, ℕ, suc, ◌+◌, ◌-◌, ◌*◌, ◌<◌, ◌≤◌, true, List, length, None, suc-mul, mul-le-mul, sym, ap, ◌∙◌, arith}
+use Rattle.std.proofs.Common.{◌≡◌, ℕ, suc, ◌+◌, ◌*◌, ◌<◌, ◌≤◌, true, List, length, None, suc-mul, mul-le-mul, sym, ap, ◌∙◌, arith}
 use Rattle.requests.specs.declared.row.Row.{Row}
 use Rattle.stored.specs.Forms.{KeyForm, TallyForm}
 use Rattle.stored.specs.Numerals.{all_bytes}

@@ -1,5 +1,5 @@
 -- What checks answer, and which fault is first. Rests on Faults.
-use Rattle.std.proofs.Common.{◌≡◌, List, [], ◌∷◌, ◌++◌, Some, None, Ok, Err, sym, refl, ◌∙◌, arith}
+use Rattle.std.proofs.Common.{◌≡◌, List, [], ◌∷◌, Some, None, Ok, Err, refl, arith}
 use Rattle.archive.specs.declared.fault.Fault.{Fault}
 use Rattle.archive.specs.Checks.{Check, first_fault, passed}
 

@@ -1,14 +1,9 @@
 -- Keys, tallies and rows as the reader takes them out of rows. Rests on RowsSame.
-use Rattle.std.proofs.Common.{◌≡◌, ℕ, ◌-◌, ◌≤◌, false, eqb, List, length, get_or, take, drop, Some, None, Ok, Err, Option, Result, sym, refl, ap, ◌∙◌, ap₂, true≢false, arith, take_all, MatchOption}
+use Rattle.std.proofs.Common.{◌≡◌, ℕ, ◌-◌, false, List, length, get_or, take, drop, Some, None, Option, sym, ap, ◌∙◌, ap₂, true≢false, MatchOption}
 use Rattle.std.proofs.lemmas.List.{take_rest}
-use Rattle.std.specs.Option.{option_map, option_zip}
-use Rattle.keys.specs.declared.refusal.Refusal.{Refusal}
-use Rattle.stored.specs.Forms.{KeyForm, TallyForm, in_range, key_got, tally_got}
-use Rattle.stored.specs.Puts.{checked_through}
+use Rattle.stored.specs.Forms.{KeyForm, TallyForm}
 use Rattle.requests.specs.declared.answer.Answer.{Answer}
-use Rattle.requests.specs.declared.answer.Answer.TheVariants.{Counted}
 use Rattle.requests.specs.declared.request.Request.{Request}
-use Rattle.requests.specs.declared.request.Request.TheVariants.{Count}
 use Rattle.requests.specs.declared.row.Row.{Row}
 use Rattle.requests.specs.declared.station.Station.{Station}
 use Rattle.requests.specs.Fits.{fits}

@@ -2,7 +2,7 @@
 use Rattle.std.proofs.Common.{◌≡◌, ℕ, ◌+◌, ◌-◌, ◌*◌, ◌<◌, ◌≤◌, ◌⊎◌, inl, inr, List, [], ◌∷◌, ◌++◌, length, get_or, take, drop, Ok, Err, Result, sym, refl, ap, ◌∙◌, ap₂, arith, length-append}
 use Rattle.stored.specs.Forms.{KeyForm}
 use Rattle.archive.specs.declared.fault.Fault.{Fault}
-use Rattle.archive.specs.Format.{request_length, answer_length, answers_start}
+use Rattle.archive.specs.Format.{request_length, answer_length}
 use Rattle.archive.specs.Checks.{Check, passed, request_checks, requests_checks, answer_checks, answers_checks}
 use Rattle.archive.proofs.Rows.{Left, row_there, row_taken, row_none, front_of, back_of, left_more, left_failed, left_none}
 

@@ -42,6 +42,9 @@ impl<'a> fmt::Display for Damage<'a> {
         let offset = fault.offset;
         let wanted = Wanted::of(fault.refusal, self.place());
         let found = Found::at(fault.refusal, self.bytes, offset);
-        write!(f, "{fault}\nexpected {wanted} at byte {offset}, found {found}\n")
+        write!(
+            f,
+            "{fault}\nexpected {wanted} at byte {offset}, found {found}\n"
+        )
     }
 }

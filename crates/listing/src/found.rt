@@ -42,6 +42,8 @@ impl Found {
         if refusal == Refusal::HeaderField {
             return Found::Number(number_at(bytes, offset));
         }
-        bytes.get(offset).map_or(Found::End, |byte| Found::Byte(*byte))
+        bytes
+            .get(offset)
+            .map_or(Found::End, |byte| Found::Byte(*byte))
     }
 }

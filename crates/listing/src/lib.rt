@@ -10,6 +10,6 @@ mod unknown;
 mod wanted;
 
 pub use kinds::{KeyKind, TallyKind};
-pub use unknown::{UnknownKeys, UnknownTallies};
 pub use reports::{list, report};
 pub use rows::list_rows;
+pub use unknown::{UnknownKeys, UnknownTallies};

@@ -1,7 +1,7 @@
 -- One row more passes, or its fault is told.
-use Rattle.std.proofs.Common.{◌≡◌, ◌+◌, ◌*◌, ◌<◌, ◌≤◌, inl, inr, ⊎_elim, mul-le-mul, sym, ◌∙◌, arith}
+use Rattle.std.proofs.Common.{◌*◌, ◌<◌, ◌≤◌, inl, inr, ⊎_elim, mul-le-mul, ◌∙◌, arith}
 use Rattle.std.specs.Slice.Iter.{chunks_exact_rest}
-use Rattle.archive.specs.Format.{request_length, answer_length, answers_start}
+use Rattle.archive.specs.Format.{request_length}
 use Rattle.archive.proofs.RowsLeft.{answer_there, answers_more, answers_failed, answers_end}
 use Rattle.archive.proofs.answer_rows.check_answers.Goals as goal
 

@@ -1,5 +1,5 @@
 -- One row more passes, or its fault is told.
-use Rattle.std.proofs.Common.{◌≡◌, sym, ◌∙◌, arith}
+use Rattle.std.proofs.Common.{sym, ◌∙◌, arith}
 use Rattle.std.specs.Slice.Iter.{chunks_exact_rest}
 use Rattle.archive.proofs.RowsLeft.{requests_more, requests_failed, requests_end}
 use Rattle.archive.proofs.request_rows.check_requests.Goals as goal

@@ -1,5 +1,5 @@
 -- There is a kind of the number, or none.
-use Rattle.std.proofs.Common.{◌≡◌, ℕ, Ok, Err, Option, Result, ◌∙◌, arith}
+use Rattle.std.proofs.Common.{◌≡◌, ℕ, Ok, Err, Result, ◌∙◌, arith}
 use Rattle.std.specs.Result.{result_ok}
 use Rattle.keys.specs.declared.refusal.Refusal.{Refusal}
 use Rattle.requests.specs.declared.kind.Kind.{Kind}

@@ -1,7 +1,6 @@
 -- A file with a fault is the file of no rows, and its fault is the one told.
-use Rattle.std.proofs.Common.{◌≡◌, List, Some, None, IfOk, string_bytes, sym, subst, ap, ◌∙◌, ap₂}
+use Rattle.std.proofs.Common.{◌≡◌, Some, None, sym, subst, ap, ◌∙◌, ap₂}
 use Rattle.std.proofs.lemmas.Result.{IfOk-weaker}
-use Rattle.requests.specs.declared.row.Row.{Row}
 use Rattle.stored.specs.Forms.{width_of}
 use Rattle.archive.specs.Theorems.{FileOf}
 use Rattle.listing.specs.FaultTexts.{fault_text}

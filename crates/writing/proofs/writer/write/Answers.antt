@@ -1,5 +1,5 @@
 -- A kind too wide or too few bytes are told, and all is left; else the file stands in front.
-use Rattle.std.proofs.Common.{refl, sym, ◌∙◌, true≢false, arith}
+use Rattle.std.proofs.Common.{refl, ◌∙◌, true≢false, arith}
 use Rattle.archive.proofs.Laws.{KeyLaws, TallyLaws}
 use Rattle.writing.proofs.FilePut.{wide-answer, short-answer, short-after, whole-answer, whole-after}
 use Rattle.writing.proofs.writer.write.Goals as goal

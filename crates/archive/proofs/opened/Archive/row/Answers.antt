@@ -1,10 +1,10 @@
 -- A number that is given has its row, and the parts are that row's.
-use Rattle.std.proofs.Common.{◌≡◌, ◌+◌, ◌-◌, ◌*◌, ◌≤◌, length, Ok, sym, ap, ◌∙◌, ap₂, arith}
+use Rattle.std.proofs.Common.{◌-◌, ◌*◌, Ok, sym, ap, ◌∙◌, ap₂, arith}
 use Rattle.std.specs.Option.{option_map}
 use Rattle.archive.specs.Format.{request_length, answer_length, answers_start}
 use Rattle.archive.specs.Opened.{row_given, row_bytes}
 use Rattle.archive.proofs.Laws.{KeyLaws, TallyLaws}
-use Rattle.archive.proofs.Handed.{handed, numbered-past}
+use Rattle.archive.proofs.Handed.{handed}
 use Rattle.archive.proofs.Opening.{rows_of, row_within}
 use Rattle.archive.proofs.opened.Archive.row.Goals as goal
 

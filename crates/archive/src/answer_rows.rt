@@ -64,6 +64,7 @@ pub fn check_answers<K: StoredKey, T: StoredTally<K>>(
         .chunks_exact(layout.request_length())
         .zip(answers.chunks_exact(size));
     for (i, (asked, row)) in rows.enumerate() {
+        // Kept: the kind as its byte, since a damaged request row may have none.
         check_answer(asked[0], row, i + 1, start + i * size)?;
     }
     Ok(())

@@ -38,6 +38,7 @@ fn answer_in<K: StoredKey, T: StoredTally<K>>(code: u8, bytes: &[u8]) -> Option<
     requires { (T.StoredTally.form.size ≤ 16) × (length bytes.now ≡ T.StoredTally.form.size) }
     ensures { result ≡ answer_in T.StoredTally.form code bytes.now }
 {
+    // Kept: code 0 is no answer yet, and a count's code takes its tally from the field beside it.
     match code {
         0 => None,
         1 => Some(Answer::Changed),

@@ -74,6 +74,7 @@ fn lengths<K: StoredKey, T: StoredTally<K>>(
 
 // Each field of the header.
 fn headers<K: StoredKey, T: StoredTally<K>>(rt: &HostRuntime, file: &mut [u8]) -> io::Result<()> {
+    // Kept: the places of the nine fields, which no list holds.
     for i in 0..9usize {
         changed::<K, T>(rt, file, 4 * i + 3, 255)?;
     }

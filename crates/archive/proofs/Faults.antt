@@ -8,10 +8,6 @@ use Rattle.archive.specs.Checks.{Check, first_fault}
 pub first_past : (c : Check) (cs : List Check) → c.holds ≡ true → first_fault (c ∷ cs) ≡ first_fault cs
 first_past c cs h = rw h
 
--- a check that fails is told
-pub first_told : (c : Check) (cs : List Check) → c.holds ≡ false → first_fault (c ∷ cs) ≡ Some c.fault
-first_told c cs h = rw h
-
 -- no fault: the first check holds, and the others have none
 pub none_first : (c : Check) (cs : List Check) → first_fault (c ∷ cs) ≡ None → c.holds ≡ true
 none_first c cs h = go c.holds refl

@@ -2,13 +2,12 @@
 use Rattle.std.proofs.Common.{◌≡◌, ℕ, ◌+◌, ◌-◌, ◌*◌, ◌≤◌, true, ◌&&◌, eqb, leb, List, [], ◌∷◌, ◌++◌, length, take, drop, None, sym, refl, ap, ◌∙◌, ap₂, arith, length-append, length-drop, eq-eqb, eqb-true, leb-true}
 use Rattle.std.proofs.lemmas.List.{drop_at, append_assoc, take-append-drop, drop-drop, length-take-le}
 use Rattle.std.specs.List.{flat_map}
-use Rattle.std.specs.Option.{option_or}
 use Rattle.stored.specs.Numerals.{four, value, all_bytes}
 use Rattle.stored.specs.HighFirst.{four_read, four_written}
 use Rattle.stored.specs.PairBytesLemmas.{all_bytes-take, all_bytes-drop}
 use Rattle.archive.specs.Format.{edition, header_fields, later_fields, header, file_length}
 use Rattle.archive.specs.Checks.{Check, first_fault, field_at, rows_told, field_check, field_checks, rows_check, nine_checks, widths_check, room_check, end_check, header_checks}
-use Rattle.archive.proofs.Faults.{first_append, first_past, first_after, none_first, none_others, none_front, none_back}
+use Rattle.archive.proofs.Faults.{first_past, first_after, none_first, none_others, none_front, none_back}
 
 -- four bytes are those of their number
 four_kept : (bytes : List ℕ) → length bytes ≡ 4 → all_bytes bytes ≡ true → four (value bytes) ≡ bytes
@@ -118,11 +117,3 @@ header_known key tally bytes a h =
       long = eqb-true _ _ ends ∙ told;
       headed = known;
     }
-
--- a header of kinds that are not too wide, with room for it: the nine fields decide, and then the end
-pub header-left : (key tally : ℕ) (bytes : List ℕ) → key ≤ 16 → tally ≤ 16 → 36 ≤ length bytes → first_fault (header_checks key tally bytes) ≡ option_or (first_fault (nine_checks key tally bytes)) (first_fault (end_check bytes ∷ []))
-header-left key tally bytes k t l =
-    let widths : (leb key 16 && leb tally 16) ≡ true = grind arith in
-    let enough : leb 36 (length bytes) ≡ true = grind arith in
-    let last : List Check = nine_checks key tally bytes ++ (end_check bytes ∷ []) in
-    first_past (widths_check key tally) (room_check bytes ∷ last) widths ∙ first_past (room_check bytes) last enough ∙ first_append (nine_checks key tally bytes) (end_check bytes ∷ [])

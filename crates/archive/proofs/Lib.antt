@@ -1,5 +1,8 @@
 pub mod Laws
 pub mod Faults
+pub mod Passed
+pub mod Rows
+pub mod RowsLeft
 pub mod RowBytes
 pub mod RowsWritten
 pub mod Headers
@@ -7,9 +10,7 @@ pub mod Holds
 pub mod RowsRead
 pub mod RowsSame
 pub mod Files
-pub mod Fields
-pub mod RowSteps
-pub mod RowParts
 pub mod Reading
 pub mod RowsIn
 pub mod Handed
+pub mod Opening

@@ -1,5 +1,5 @@
 -- The checks of a file in their order, and the first that fails.
-use Rattle.std.specs.Prelude.{ℕ, zero, suc, ◌+◌, ◌*◌, Bool, false, cond, ◌&&◌, ◌||◌, List, [], ◌∷◌, ◌++◌, length, take, drop, is_some, Some, None, Option, ◌==◌, nat_le, slice_index}
+use Rattle.std.specs.Prelude.{ℕ, zero, suc, ◌+◌, ◌*◌, Bool, false, cond, ◌&&◌, ◌||◌, List, [], ◌∷◌, ◌++◌, length, take, drop, is_some, Some, None, Ok, Err, Option, Result, ◌==◌, nat_le, slice_index}
 use Rattle.octets.specs.Runs.{all_are}
 use Rattle.keys.specs.declared.refusal.Refusal.{Refusal}
 use Rattle.keys.specs.declared.refusal.Refusal.TheVariants.{TooWide, FileLength, HeaderField, RequestRow, AnswerRow}
@@ -22,6 +22,11 @@ pub record Check : Type 0 where
 abbrev pub first_fault : List Check → Option Fault
 first_fault [] = None
 first_fault (c ∷ cs) = cond c.holds (first_fault cs) (Some c.fault)
+
+-- what checking answers: nothing more, or what the first check that fails tells
+abbrev pub passed : List Check → Result (Unit {0}) Fault
+passed [] = Ok tt
+passed (c ∷ cs) = cond c.holds (passed cs) (Err c.fault)
 
 abbrev pub in_header : Refusal → ℕ → Fault
 in_header refusal offset = record { refusal = refusal; layer = Header; row = 0; offset = offset }

@@ -1,4 +1,5 @@
 pub mod Format
+pub mod Layouts
 pub mod Layers
 pub mod Checks
 pub mod Theorems

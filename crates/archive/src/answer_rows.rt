@@ -2,21 +2,24 @@
 ghost use Rattle.std.specs.Prelude.{◌≡◌, ◌+◌, ◌*◌, ◌≤◌, ◌||◌, length, ◌==◌};
 ghost use Rattle.octets.specs.Runs.{all_are};
 ghost use Rattle.archive.specs.Format.{request_length, answer_length, answers_start};
-ghost use Rattle.archive.specs.Checks.{kind_numbered, is_code, answer_checks, answers_checks, first_fault};
+ghost use Rattle.archive.specs.Checks.{kind_numbered, is_code, answer_checks, answers_checks, passed};
 
 use super::fault::Fault;
-use super::header::HEADER_LENGTH;
+use super::layout::Layout;
+use super::request_rows::kind_numbered;
 use octets::are_all;
+use requests::Kind;
+use stored::{StoredKey, StoredTally};
 
-// Whether a request of the kind of that number can have that code.
-fn is_code(kind: u8, code: u8) -> bool
-    ensures { result ≡ is_code (kind_numbered kind) code }
+// Whether a request of the kind can have that code: 0, while it is unfinished, or one that answers it.
+fn is_code(kind: Option<Kind>, code: u8) -> bool
+    ensures { result ≡ is_code kind code }
 {
     match kind {
-        1 | 2 => code <= 2,
-        3 => code == 0 || code == 3 || code == 4,
-        4 => code == 0 || code == 5,
-        _ => false,
+        Some(Kind::Enter | Kind::Withdraw) => code <= 2,
+        Some(Kind::LookUp) => code == 0 || code == 3 || code == 4,
+        Some(Kind::Count) => code == 0 || code == 5,
+        None => false,
     }
 }
 
@@ -24,55 +27,45 @@ fn is_code(kind: u8, code: u8) -> bool
 fn is_tally(code: u8, bytes: &[u8]) -> bool
     ensures { result ≡ (code == 5 || all_are 0 bytes.now) }
 {
-    if code == 5 {
-        return true;
-    }
-    are_all(bytes, 0)
+    code == 5 || are_all(bytes, 0)
 }
 
-// The first fault of an answer row to a request of that kind.
-fn answer_fault(kind: u8, row: &[u8], number: usize, offset: usize) -> Option<Fault>
+// The first fault of an answer row to a request of the kind of that number.
+fn check_answer(kind: u8, row: &[u8], number: usize, offset: usize) -> Result<(), Fault>
     requires { (4 ≤ length row.now) × (offset ≤ 131072) }
-    ensures { result ≡ first_fault (answer_checks kind number offset row.now) }
+    ensures { result ≡ passed (answer_checks kind number offset row.now) }
 {
     let code = row[0];
-    if !is_code(kind, code) {
-        return Some(Fault::in_answer(number, offset));
+    if !is_code(kind_numbered(kind), code) {
+        return Err(Fault::in_answer(number, offset));
     }
     if !are_all(&row[1..4], 0) {
-        return Some(Fault::in_answer(number, offset + 1));
+        return Err(Fault::in_answer(number, offset + 1));
     }
     if !is_tally(code, &row[4..]) {
-        return Some(Fault::in_answer(number, offset + 4));
+        return Err(Fault::in_answer(number, offset + 4));
     }
-    None
+    Ok(())
 }
 
 // The first fault of all answer rows.
-pub fn answers_fault(
+pub fn check_answers<K: StoredKey, T: StoredTally<K>>(
+    layout: &Layout<K, T>,
     requests: &[u8],
     answers: &[u8],
-    key: usize,
-    tally: usize,
-    count: usize,
-) -> Option<Fault>
-    requires widths { (key ≤ 16) × ((tally ≤ 16) × (count ≤ 1024)) }
-    requires rows { (length requests.now ≡ count * request_length key) × (length answers.now ≡ count * answer_length tally) }
-    requires short { (length requests.now ≤ 65000) × (length answers.now ≤ 65000) }
-    ensures { result ≡ first_fault (answers_checks key tally count 1 (answers_start count key) requests.now answers.now) }
+) -> Result<(), Fault>
+    requires asked { length requests.now ≡ layout.now.rows * request_length K.StoredKey.form.size }
+    requires answered { length answers.now ≡ layout.now.rows * answer_length T.StoredTally.form.size }
+    ensures { result ≡ passed (answers_checks K.StoredKey.form.size T.StoredTally.form.size layout.now.rows 1 (answers_start layout.now.rows K.StoredKey.form.size) requests.now answers.now) }
 {
-    let asked_size = 4 + 2 * key;
-    let size = 4 + tally;
-    let mut asked = requests;
-    let mut rest = answers;
-    let mut offset = HEADER_LENGTH + requests.len();
-    for i in 0..count {
-        if let Some(fault) = answer_fault(asked[0], &rest[0..size], i + 1, offset) {
-            return Some(fault);
-        }
-        asked = &asked[asked_size..];
-        rest = &rest[size..];
-        offset += size;
+    let start = layout.answers_start();
+    let size = layout.answer_length();
+    let rows = requests
+        .chunks_exact(layout.request_length())
+        .zip(answers.chunks_exact(size));
+    for (i, (asked, row)) in rows.enumerate() {
+        // Kept: the kind as its byte, since a damaged request row may have none.
+        check_answer(asked[0], row, i + 1, start + i * size)?;
     }
-    None
+    Ok(())
 }

@@ -1,26 +1,22 @@
 // The first fault of a whole file.
-ghost use Rattle.std.specs.Prelude.{◌≡◌};
-ghost use Rattle.archive.specs.Checks.{fault_of};
+ghost use Rattle.std.specs.Prelude.{◌≡◌, MatchResult, Some, None};
+ghost use Rattle.archive.specs.Checks.{rows_told, fault_of};
 
-use super::answer_rows::answers_fault;
+use super::answer_rows::check_answers;
 use super::fault::Fault;
-use super::header::{HEADER_LENGTH, field, header_fault};
-use super::request_rows::requests_fault;
+use super::header::check_header;
+use super::layout::{HEADER_LENGTH, Layout};
+use super::request_rows::check_requests;
 use stored::{StoredKey, StoredTally};
 
-pub fn file_fault<K: StoredKey, T: StoredTally<K>>(bytes: &[u8]) -> Option<Fault>
-    ensures { result ≡ fault_of K.StoredKey.form T.StoredTally.form bytes.now }
+// How a file lies, or its first fault.
+pub fn check_file<K: StoredKey, T: StoredTally<K>>(bytes: &[u8]) -> Result<Layout<K, T>, Fault>
+    ensures { MatchResult result (λ l. (fault_of K.StoredKey.form T.StoredTally.form bytes.now ≡ None) × (l.rows ≡ rows_told bytes.now)) (λ f. fault_of K.StoredKey.form T.StoredTally.form bytes.now ≡ Some f) }
 {
-    let key = K::width();
-    let tally = T::width();
-    if let Some(fault) = header_fault(bytes, key, tally) {
-        return Some(fault);
-    }
-    let count = field(bytes, 4);
-    let answers_start = HEADER_LENGTH + count * (4 + 2 * key);
-    let requests = &bytes[HEADER_LENGTH..answers_start];
-    if let Some(fault) = requests_fault::<K>(requests, key, count) {
-        return Some(fault);
-    }
-    answers_fault(requests, &bytes[answers_start..], key, tally, count)
+    let layout = check_header::<K, T>(bytes)?;
+    let start = layout.answers_start();
+    let requests = &bytes[HEADER_LENGTH..start];
+    check_requests(&layout, requests)?;
+    check_answers(&layout, requests, &bytes[start..])?;
+    Ok(layout)
 }

@@ -3,8 +3,9 @@ use super::layer::Layer;
 use keys::Refusal;
 
 mod made;
+mod told;
 
-#[derive(Clone, Copy)]
+#[derive(Clone, Copy, PartialEq, Eq, Debug)]
 pub struct Fault {
     pub refusal: Refusal,
     pub layer: Layer,

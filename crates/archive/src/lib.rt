@@ -7,9 +7,11 @@ mod decoding;
 mod fault;
 mod header;
 mod layer;
+mod layout;
 mod opened;
 mod request_rows;
 
 pub use fault::Fault;
 pub use layer::Layer;
+pub use layout::{HEADER_LENGTH, Layout};
 pub use opened::{Archive, Parts};

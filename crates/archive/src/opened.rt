@@ -1,14 +1,21 @@
 // A file that was accepted, over its borrowed bytes.
-use std::marker::PhantomData;
+ghost use Rattle.std.specs.Prelude.{◌≡◌, true, None};
+ghost use Rattle.stored.specs.Numerals.{all_bytes};
+ghost use Rattle.archive.specs.Checks.{fault_of, rows_told};
+
+use super::layout::Layout;
+use stored::{StoredKey, StoredTally};
 
 mod calls;
 mod rows;
 
 #[derive(Drop)]
-pub struct Archive<'a, K, T> {
+pub struct Archive<'a, K: StoredKey, T: StoredTally<K>> {
     bytes: &'a [u8],
-    count: usize,
-    kinds: PhantomData<(K, T)>,
+    layout: Layout<K, T>,
+    ghost typed: { all_bytes bytes.now ≡ true },
+    ghost sound: { fault_of K.StoredKey.form T.StoredTally.form bytes.now ≡ None },
+    ghost counted: { layout.rows ≡ rows_told bytes.now },
 }
 
 // What a row is in the file: the bytes of the request and of the answer.

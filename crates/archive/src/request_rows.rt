@@ -1,24 +1,20 @@
 // The checks of request rows.
 ghost use Rattle.std.specs.Prelude.{◌≡◌, ◌+◌, ◌*◌, ◌≤◌, length, is_some};
-ghost use Rattle.requests.specs.Stations.{is_station};
+ghost use Rattle.requests.specs.Kinds.{kind_number};
 ghost use Rattle.archive.specs.Format.{request_length};
-ghost use Rattle.archive.specs.Checks.{kind_numbered, is_second, request_checks, requests_checks, first_fault};
+ghost use Rattle.archive.specs.Checks.{kind_numbered, is_second, request_checks, requests_checks, passed};
 
 use super::fault::Fault;
-use super::header::HEADER_LENGTH;
+use super::layout::{HEADER_LENGTH, Layout};
 use octets::are_all;
-use stored::StoredKey;
+use requests::{Kind, Station};
+use stored::{StoredKey, StoredTally};
 
-fn is_kind(number: u8) -> bool
-    ensures { result ≡ is_some (kind_numbered number) }
+// The kind of that number.
+pub fn kind_numbered(number: u8) -> Option<Kind>
+    ensures { result ≡ kind_numbered number }
 {
-    matches!(number, 1..=4)
-}
-
-fn is_station(number: u8) -> bool
-    ensures { result ≡ is_station number }
-{
-    matches!(number, 1..=8)
+    Kind::try_from(number).ok()
 }
 
 // Whether the bytes are a key.
@@ -30,59 +26,54 @@ fn is_key<K: StoredKey>(bytes: &[u8]) -> bool
 }
 
 // Whether the bytes are what stands in a row of that kind for a second key.
-fn is_second<K: StoredKey>(kind: u8, bytes: &[u8]) -> bool
+fn is_second<K: StoredKey>(kind: Kind, bytes: &[u8]) -> bool
     requires { (K.StoredKey.form.size ≤ 16) × (length bytes.now ≡ K.StoredKey.form.size) }
-    ensures { result ≡ is_second K.StoredKey.form kind bytes.now }
+    ensures { result ≡ is_second K.StoredKey.form (kind_number kind) bytes.now }
 {
-    if kind == 4 {
-        return is_key::<K>(bytes);
+    match kind {
+        Kind::Count => is_key::<K>(bytes),
+        Kind::Enter | Kind::Withdraw | Kind::LookUp => are_all(bytes, 0),
     }
-    are_all(bytes, 0)
 }
 
 // The first fault of a request row.
-fn request_fault<K: StoredKey>(
+fn check_request<K: StoredKey, T: StoredTally<K>>(
+    layout: &Layout<K, T>,
     row: &[u8],
-    width: usize,
     number: usize,
     offset: usize,
-) -> Option<Fault>
-    requires { (K.StoredKey.form.size ≤ 16) × ((width ≡ K.StoredKey.form.size) × ((length row.now ≡ request_length width) × (offset ≤ 65536))) }
-    ensures { result ≡ first_fault (request_checks K.StoredKey.form number offset row.now) }
+) -> Result<(), Fault>
+    requires { (length row.now ≡ request_length K.StoredKey.form.size) × (offset ≤ 65536) }
+    ensures { result ≡ passed (request_checks K.StoredKey.form number offset row.now) }
 {
-    let kind = row[0];
-    if !is_kind(kind) {
-        return Some(Fault::in_request(number, offset));
-    }
-    if !is_station(row[1]) {
-        return Some(Fault::in_request(number, offset + 1));
+    let width = K::width();
+    let kind = kind_numbered(row[0]).ok_or(Fault::in_request(number, offset))?;
+    if Station::new(row[1] as u32).is_err() {
+        return Err(Fault::in_request(number, offset + 1));
     }
     if !are_all(&row[2..4], 0) {
-        return Some(Fault::in_request(number, offset + 2));
+        return Err(Fault::in_request(number, offset + 2));
     }
     if !is_key::<K>(&row[4..4 + width]) {
-        return Some(Fault::in_request(number, offset + 4));
+        return Err(Fault::in_request(number, offset + 4));
     }
     if !is_second::<K>(kind, &row[4 + width..]) {
-        return Some(Fault::in_request(number, offset + 4 + width));
+        return Err(Fault::in_request(number, offset + 4 + width));
     }
-    None
+    Ok(())
 }
 
 // The first fault of all request rows.
-pub fn requests_fault<K: StoredKey>(requests: &[u8], width: usize, count: usize) -> Option<Fault>
-    requires { (K.StoredKey.form.size ≤ 16) × ((width ≡ K.StoredKey.form.size) × ((length requests.now ≡ count * request_length width) × ((length requests.now ≤ 65000) × (count ≤ 1024)))) }
-    ensures { result ≡ first_fault (requests_checks K.StoredKey.form count 1 36 requests.now) }
+pub fn check_requests<K: StoredKey, T: StoredTally<K>>(
+    layout: &Layout<K, T>,
+    requests: &[u8],
+) -> Result<(), Fault>
+    requires { length requests.now ≡ layout.now.rows * request_length K.StoredKey.form.size }
+    ensures { result ≡ passed (requests_checks K.StoredKey.form layout.now.rows 1 36 requests.now) }
 {
-    let size = 4 + 2 * width;
-    let mut rest = requests;
-    let mut offset = HEADER_LENGTH;
-    for i in 0..count {
-        if let Some(fault) = request_fault::<K>(&rest[0..size], width, i + 1, offset) {
-            return Some(fault);
-        }
-        rest = &rest[size..];
-        offset += size;
+    let size = layout.request_length();
+    for (i, row) in requests.chunks_exact(size).enumerate() {
+        check_request(layout, row, i + 1, HEADER_LENGTH + i * size)?;
     }
-    None
+    Ok(())
 }

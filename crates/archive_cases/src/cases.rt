@@ -1,6 +1,6 @@
 // A file of each kind, whole and damaged field by field: prints what opening says.
 use super::sample::Sample;
-use archive::Archive;
+use archive::{Archive, HEADER_LENGTH, Layout};
 use std::io;
 use stored::{StoredKey, StoredTally};
 use writing::{Rows, write, write_again};
@@ -18,13 +18,7 @@ fn told<K: StoredKey, T: StoredTally<K>>(
             let count = archive.count();
             println!(rt; "{name}: accepted, rows {count}")
         }
-        Err(fault) => {
-            let number = u8::from(fault.refusal);
-            let layer = fault.layer.word();
-            let row = fault.row;
-            let offset = fault.offset;
-            println!(rt; "{name}: fault {number} {layer} row {row} offset {offset}")
-        }
+        Err(fault) => println!(rt; "{name}: {fault}"),
     }
 }
 
@@ -46,19 +40,18 @@ fn again<K: StoredKey, T: StoredTally<K>>(rt: &HostRuntime, bytes: &[u8]) -> io:
 // The file with one byte changed, and then as it was.
 fn changed<K: StoredKey, T: StoredTally<K>>(
     rt: &HostRuntime,
-    buffer: &mut [u8],
-    length: usize,
+    file: &mut [u8],
     offset: usize,
     value: u8,
 ) -> io::Result<()> {
-    if offset >= buffer.len() || length > buffer.len() {
+    if offset >= file.len() {
         return println!(rt; "no such byte");
     }
-    let kept = buffer[offset];
-    buffer[offset] = value;
+    let kept = file[offset];
+    file[offset] = value;
     print!(rt; "byte {offset} is {value}, ")?;
-    told::<K, T>(rt, "opened", &buffer[0..length])?;
-    buffer[offset] = kept;
+    told::<K, T>(rt, "opened", file)?;
+    file[offset] = kept;
     Ok(())
 }
 
@@ -80,70 +73,64 @@ fn lengths<K: StoredKey, T: StoredTally<K>>(
 }
 
 // Each field of the header.
-fn headers<K: StoredKey, T: StoredTally<K>>(
-    rt: &HostRuntime,
-    buffer: &mut [u8],
-    length: usize,
-) -> io::Result<()> {
+fn headers<K: StoredKey, T: StoredTally<K>>(rt: &HostRuntime, file: &mut [u8]) -> io::Result<()> {
+    // Kept: the places of the nine fields, which no list holds.
     for i in 0..9usize {
-        changed::<K, T>(rt, buffer, length, 4 * i + 3, 255)?;
+        changed::<K, T>(rt, file, 4 * i + 3, 255)?;
     }
-    changed::<K, T>(rt, buffer, length, 6, 4)
+    changed::<K, T>(rt, file, 6, 4)
 }
 
 // Each field of the first request row, and both keys of the second, which is a count's.
 fn requests<K: StoredKey, T: StoredTally<K>>(
     rt: &HostRuntime,
-    buffer: &mut [u8],
-    length: usize,
-    key: usize,
+    layout: &Layout<K, T>,
+    file: &mut [u8],
 ) -> io::Result<()> {
-    if key < 1 || key > 16 {
-        return println!(rt; "no key");
-    }
-    changed::<K, T>(rt, buffer, length, 36, 5)?;
-    changed::<K, T>(rt, buffer, length, 37, 9)?;
-    changed::<K, T>(rt, buffer, length, 39, 1)?;
-    changed::<K, T>(rt, buffer, length, 39 + key, 255)?;
-    changed::<K, T>(rt, buffer, length, 39 + 2 * key, 1)?;
-    let row = 36 + 4 + 2 * key;
-    changed::<K, T>(rt, buffer, length, row + 3 + key, 255)?;
-    changed::<K, T>(rt, buffer, length, row + 3 + 2 * key, 255)
+    let key = K::width();
+    changed::<K, T>(rt, file, 36, 5)?;
+    changed::<K, T>(rt, file, 37, 9)?;
+    changed::<K, T>(rt, file, 39, 1)?;
+    changed::<K, T>(rt, file, 39 + key, 255)?;
+    changed::<K, T>(rt, file, 39 + 2 * key, 1)?;
+    let row = HEADER_LENGTH + layout.request_length();
+    changed::<K, T>(rt, file, row + 3 + key, 255)?;
+    changed::<K, T>(rt, file, row + 3 + 2 * key, 255)
 }
 
 // Each field of the first answer row, and of the second, which is a count's.
 fn answers<K: StoredKey, T: StoredTally<K>>(
     rt: &HostRuntime,
-    buffer: &mut [u8],
-    length: usize,
-    key: usize,
-    tally: usize,
+    layout: &Layout<K, T>,
+    file: &mut [u8],
 ) -> io::Result<()> {
-    if key > 16 || tally > 16 {
-        return println!(rt; "no kinds");
-    }
-    let row = 36 + 3 * (4 + 2 * key);
-    changed::<K, T>(rt, buffer, length, row, 3)?;
-    changed::<K, T>(rt, buffer, length, row + 3, 1)?;
-    changed::<K, T>(rt, buffer, length, row + 4, 1)?;
-    let next = row + 4 + tally;
-    changed::<K, T>(rt, buffer, length, next, 4)?;
-    changed::<K, T>(rt, buffer, length, next, 0)?;
-    changed::<K, T>(rt, buffer, length, next + 4, 200)
+    let row = layout.answers_start();
+    changed::<K, T>(rt, file, row, 3)?;
+    changed::<K, T>(rt, file, row + 3, 1)?;
+    changed::<K, T>(rt, file, row + 4, 1)?;
+    let next = row + layout.answer_length();
+    changed::<K, T>(rt, file, next, 4)?;
+    changed::<K, T>(rt, file, next, 0)?;
+    changed::<K, T>(rt, file, next + 4, 200)
 }
 
-// All cases of a file in a buffer.
+// All cases of a file of three rows in a buffer.
 fn file<K: StoredKey, T: StoredTally<K>>(
     rt: &HostRuntime,
     buffer: &mut [u8],
     length: usize,
 ) -> io::Result<()> {
-    let key = K::width();
-    let tally = T::width();
+    let Ok(layout) = Layout::<K, T>::new(3) else {
+        return println!(rt; "no kinds");
+    };
     lengths::<K, T>(rt, buffer, length)?;
-    headers::<K, T>(rt, buffer, length)?;
-    requests::<K, T>(rt, buffer, length, key)?;
-    answers::<K, T>(rt, buffer, length, key, tally)
+    if length > buffer.len() {
+        return println!(rt; "no file");
+    }
+    let file = &mut buffer[0..length];
+    headers::<K, T>(rt, file)?;
+    requests(rt, &layout, file)?;
+    answers(rt, &layout, file)
 }
 
 // All cases of a sample's kinds.
@@ -159,8 +146,7 @@ pub fn cases<K: StoredKey + Drop, T: StoredTally<K> + Drop>(
             file::<K, T>(rt, &mut buffer, length)
         }
         Err(refusal) => {
-            let number = u8::from(refusal);
-            println!(rt; "{name}: writing is refused {number}")?;
+            println!(rt; "{name}: writing is refused {refusal}")?;
             told::<K, T>(rt, "opened", &buffer)
         }
     }
@@ -178,5 +164,8 @@ pub fn small<K: StoredKey + Drop, T: StoredTally<K> + Drop>(
     };
     let count = sample.rows;
     println!(rt; "rows {count}: length {length}")?;
-    changed::<K, T>(rt, &mut buffer, length, offset, 9)
+    if length > ROOM {
+        return println!(rt; "no file");
+    }
+    changed::<K, T>(rt, &mut buffer[0..length], offset, 9)
 }

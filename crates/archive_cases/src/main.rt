@@ -5,7 +5,7 @@ mod cases;
 mod sample;
 
 use cases::{cases, small};
-use keys::{Area, Class, Refusal, Route, Section};
+use keys::{Area, Class, Route, Section};
 use sample::Sample;
 use std::io;
 use tallies::{Classes, Number, Pair};
@@ -14,22 +14,12 @@ fn routes(rt: &HostRuntime, first: Route, second: Route) -> io::Result<()> {
     cases(
         rt,
         "route, number",
-        &Sample {
-            rows: 3,
-            first,
-            second,
-            tally: Number::new(2),
-        },
+        &Sample::three(first, second, Number::new(2)),
     )?;
     cases(
         rt,
         "route, classes",
-        &Sample {
-            rows: 3,
-            first,
-            second,
-            tally: Classes::new(1, 2, 3, 4),
-        },
+        &Sample::three(first, second, Classes::new(1, 2, 3, 4)),
     )?;
     let tally = Pair {
         first: Number::new(258),
@@ -38,12 +28,7 @@ fn routes(rt: &HostRuntime, first: Route, second: Route) -> io::Result<()> {
     cases(
         rt,
         "route, number and classes",
-        &Sample {
-            rows: 3,
-            first,
-            second,
-            tally,
-        },
+        &Sample::three(first, second, tally),
     )?;
     let first = Area {
         number: 3,
@@ -56,12 +41,7 @@ fn routes(rt: &HostRuntime, first: Route, second: Route) -> io::Result<()> {
     cases(
         rt,
         "area over route, number",
-        &Sample {
-            rows: 3,
-            first,
-            second,
-            tally: Number::new(7),
-        },
+        &Sample::three(first, second, Number::new(7)),
     )
 }
 
@@ -93,12 +73,7 @@ fn sections(rt: &HostRuntime, first: Section, second: Section) -> io::Result<()>
     cases(
         rt,
         "section, number",
-        &Sample {
-            rows: 3,
-            first,
-            second,
-            tally: Number::new(2),
-        },
+        &Sample::three(first, second, Number::new(2)),
     )?;
     let first = Area {
         number: 1,
@@ -117,12 +92,7 @@ fn sections(rt: &HostRuntime, first: Section, second: Section) -> io::Result<()>
     cases(
         rt,
         "area over area over section, number",
-        &Sample {
-            rows: 3,
-            first,
-            second,
-            tally: Number::new(2),
-        },
+        &Sample::three(first, second, Number::new(2)),
     )?;
     let first = Area {
         number: 5,
@@ -147,33 +117,15 @@ fn sections(rt: &HostRuntime, first: Section, second: Section) -> io::Result<()>
     cases(
         rt,
         "five areas over section, number",
-        &Sample {
-            rows: 3,
-            first,
-            second,
-            tally: Number::new(2),
-        },
+        &Sample::three(first, second, Number::new(2)),
     )
 }
 
-fn all(rt: &HostRuntime) -> io::Result<()> {
-    let Ok(first) = Route::new(10, 14, Class::M) else {
-        return println!(rt; "no route");
-    };
-    let Ok(second) = Route::new(9999, 1, Class::S) else {
-        return println!(rt; "no route");
-    };
-    few(rt, first, second)?;
-    routes(rt, first, second)?;
-    let Ok(first) = Section::new(b"AB") else {
-        return println!(rt; "no section");
-    };
-    let Ok(second) = Section::new(b"ABCDEFG7") else {
-        return println!(rt; "no section");
-    };
-    sections(rt, first, second)
-}
-
-fn main(rt: HostRuntime) -> io::Result<()> {
-    all(&rt)
+fn main(rt: HostRuntime) -> anyhow::Result<()> {
+    let first = Route::new(10, 14, Class::M)?;
+    let second = Route::new(9999, 1, Class::S)?;
+    few(&rt, first, second)?;
+    routes(&rt, first, second)?;
+    sections(&rt, Section::new(b"AB")?, Section::new(b"ABCDEFG7")?)?;
+    Ok(())
 }

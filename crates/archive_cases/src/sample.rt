@@ -12,6 +12,17 @@ pub struct Sample<K, T> {
     pub rows: usize,
 }
 
+impl<K, T> Sample<K, T> {
+    pub fn three(first: K, second: K, tally: T) -> Sample<K, T> {
+        Sample {
+            first,
+            second,
+            tally,
+            rows: 3,
+        }
+    }
+}
+
 impl<K: StoredKey + Drop, T: StoredTally<K> + Drop> Rows<K, T> for Sample<K, T> {
     // Nothing is promised of a sample: the output is compared.
     ghost has = { λ _ _. ⊥ };
@@ -38,9 +49,6 @@ impl<K: StoredKey + Drop, T: StoredTally<K> + Drop> Rows<K, T> for Sample<K, T> 
             3 => Row::new(Station::new(3)?, Request::LookUp(first), None),
             _ => None,
         };
-        match made {
-            Some(row) => Ok(row),
-            None => Err(Refusal::NotGiven),
-        }
+        made.ok_or(Refusal::NotGiven)
     }
 }

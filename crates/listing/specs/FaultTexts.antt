@@ -2,6 +2,8 @@
 use Rattle.std.specs.Prelude.{ℕ, ◌+◌, ◌-◌, ◌%◌, cond, List, ◌++◌, length, codes, decimal, ◌==◌, nat_lt, slice_index}
 use Rattle.keys.specs.Refusals.{refusal_number}
 use Rattle.keys.specs.declared.refusal.Refusal.{Refusal}
+use Rattle.listing.specs.declared.found.Found.{Found}
+use Rattle.listing.specs.declared.found.Found.TheVariants.{Number, Byte, End}
 use Rattle.listing.specs.declared.wanted.Wanted.{Wanted}
 use Rattle.listing.specs.declared.wanted.Wanted.TheVariants.{Kinds, Length, Edition, FewRows, KeyWidth, TallyWidth, RequestLength, AnswerLength, RequestsStart, AnswersStart, FileEnd, Kind, Station, TwoZeros, Key, SecondKey, Code, ThreeZeros, NoTally}
 use Rattle.archive.specs.declared.fault.Fault.{Fault}
@@ -70,6 +72,12 @@ wanted_text SecondKey = codes "the second key of a count, or zero bytes,"
 wanted_text Code = codes "a code that answers the request, or 0,"
 wanted_text ThreeZeros = codes "three zero bytes"
 wanted_text NoTally = codes "zero bytes, as there is no tally,"
+
+-- the words for what stands there
+abbrev pub found_text : Found → List ℕ
+found_text (Number number) = codes "the number " ++ decimal number
+found_text (Byte byte) = codes "a field that begins with byte " ++ decimal byte
+found_text End = codes "the end of the file"
 
 -- what stands at an offset: the number in a header field, else the byte
 abbrev pub found : Refusal → List ℕ → ℕ → List ℕ

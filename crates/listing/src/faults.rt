@@ -1,99 +1,50 @@
-// Faults as text: a line for the fault, and a sentence that says what was expected and what stands there.
-ghost use Rattle.std.specs.Prelude.{◌≡◌, ◌≤◌, IfOk, string_bytes};
-ghost use Rattle.listing.specs.FaultTexts.{fault_line, told_at, place, found, sentence, fault_text};
+// A damaged file for people: a line for the fault, and a sentence that says what was expected and what stands there.
+ghost use Rattle.std.specs.Prelude.{◌≡◌, ◌≤◌, Some};
+ghost use Rattle.listing.specs.FaultTexts.{place, fault_text};
 
+use super::found::{Found, number_at};
 use super::wanted::Wanted;
-use archive::{Fault, Layer};
-use keys::Refusal;
-use std::alloc::{AllocError, Global};
-use stored::from_four;
+use archive::{Fault, HEADER_LENGTH, Layer};
+use std::fmt;
 
-// What is told of a damaged file.
-fn fault_line(heap: Global, fault: Fault) -> Result<String, AllocError>
-    ensures { IfOk result (λ s. string_bytes s ≡ fault_line fault) }
-{
-    let number = u8::from(fault.refusal);
-    let layer = fault.layer.word();
-    let row = fault.row;
-    let offset = fault.offset;
-    format!(in heap; "fault {number} {layer} row {row} offset {offset}\n")
+// The bytes of a file, the widths of the kinds that it was opened with, and its first fault.
+#[derive(Drop)]
+pub struct Damage<'a> {
+    pub bytes: &'a [u8],
+    pub key: usize,
+    pub tally: usize,
+    pub fault: Fault,
+    ghost widths: { (key ≤ 17) × (tally ≤ 17) },
 }
 
-// The number in the four bytes at an offset, 0 where there are not so many.
-fn number_at(bytes: &[u8], offset: usize) -> usize
-    ensures { result ≡ told_at offset bytes.now }
-{
-    if bytes.len() < 4 {
-        return 0;
-    }
-    if offset > bytes.len() - 4 {
-        return 0;
-    }
-    from_four(
-        bytes[offset],
-        bytes[offset + 1],
-        bytes[offset + 2],
-        bytes[offset + 3],
-    ) as usize
-}
-
-// What stands at an offset: the number in a header field, else the byte.
-fn found(heap: Global, refusal: Refusal, bytes: &[u8], offset: usize) -> Result<String, AllocError>
-    ensures { IfOk result (λ s. string_bytes s ≡ found refusal bytes.now offset) }
-{
-    if u8::from(refusal) == 12 {
-        let number = number_at(bytes, offset);
-        return format!(in heap; "the number {number}");
-    }
-    if offset < bytes.len() {
-        let byte = bytes[offset];
-        return format!(in heap; "a field that begins with byte {byte}");
-    }
-    String::from_str(heap, "the end of the file")
-}
-
-// Where the wrong field starts, counted from the front of its row.
-fn place(key: usize, tally: usize, bytes: &[u8], layer: Layer, offset: usize) -> usize
-    requires { (key ≤ 17) × (tally ≤ 17) }
-    ensures { result ≡ place key tally bytes.now layer offset }
-{
-    match layer {
-        Layer::Header => offset,
-        Layer::Requests => offset.saturating_sub(36) % (4 + 2 * key),
-        Layer::Answers => offset.saturating_sub(number_at(bytes, 28)) % (4 + tally),
+impl<'a> Damage<'a> {
+    // Where the wrong field starts, counted from the front of its row.
+    fn place(&self) -> usize
+        ensures { result ≡ place self.now.key self.now.tally self.now.bytes.now self.now.fault.layer self.now.fault.offset }
+    {
+        let offset = self.fault.offset;
+        match self.fault.layer {
+            Layer::Header => offset,
+            Layer::Requests => offset.saturating_sub(HEADER_LENGTH) % (4 + 2 * self.key),
+            Layer::Answers => {
+                let start = number_at(self.bytes, 28) as usize;
+                offset.saturating_sub(start) % (4 + self.tally)
+            }
+        }
     }
 }
 
-// The sentence under the fault.
-fn sentence(
-    heap: Global,
-    key: usize,
-    tally: usize,
-    bytes: &[u8],
-    fault: Fault,
-) -> Result<String, AllocError>
-    requires { (key ≤ 17) × (tally ≤ 17) }
-    ensures { IfOk result (λ s. string_bytes s ≡ sentence key tally bytes.now fault) }
-{
-    let at = place(key, tally, bytes, fault.layer, fault.offset);
-    let wanted = Wanted::of(fault.refusal, at).text();
-    let offset = fault.offset;
-    let stands = found(heap, fault.refusal, bytes, offset)?;
-    format!(in heap; "expected {wanted} at byte {offset}, found {stands}\n")
-}
+impl<'a> fmt::Display for Damage<'a> {
+    ghost output = { λ d. Some (fault_text d.key d.tally d.bytes.now d.fault) };
 
-// A damaged file for people: the fault, and the sentence under it.
-pub fn fault_text(
-    heap: Global,
-    key: usize,
-    tally: usize,
-    bytes: &[u8],
-    fault: Fault,
-) -> Result<String, AllocError>
-    requires { (key ≤ 17) × (tally ≤ 17) }
-    ensures { IfOk result (λ s. string_bytes s ≡ fault_text key tally bytes.now fault) }
-{
-    let line = fault_line(heap, fault)?;
-    let under = sentence(heap, key, tally, bytes, fault)?;
-    format!(in heap; "{line}{under}")
+    fn fmt<W: fmt::Write>(&self, f: &mut fmt::Formatter<W>) -> fmt::Result {
+        let fault = self.fault;
+        let offset = fault.offset;
+        let wanted = Wanted::of(fault.refusal, self.place());
+        let found = Found::at(fault.refusal, self.bytes, offset);
+        write!(
+            f,
+            "{fault}\nexpected {wanted} at byte {offset}, found {found}\n"
+        )
+    }
 }

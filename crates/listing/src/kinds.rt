@@ -1,8 +1,10 @@
 // The words that name kinds of key and of tally.
-ghost use Rattle.std.specs.Prelude.{◌≡◌, MatchOption, ◌≢◌};
-ghost use Rattle.listing.specs.Kinds.{key_word, tally_word};
+ghost use Rattle.listing.specs.Kinds.{KeyKindOfWord, TallyKindOfWord};
 
-#[derive(Clone, Copy)]
+use super::unknown::{UnknownKeys, UnknownTallies};
+use std::str::FromStr;
+
+#[derive(Clone, Copy, PartialEq, Eq, Debug)]
 pub enum KeyKind {
     Routes,
     Sections,
@@ -10,48 +12,40 @@ pub enum KeyKind {
     AreaSections,
 }
 
-impl KeyKind {
-    // The kind of that word; none where no kind has it.
-    pub fn from_word(word: &str) -> Option<KeyKind>
-        ensures { MatchOption result ((k : KeyKind) → key_word k ≢ word.now) (λ k. key_word k ≡ word.now) }
-    {
-        if word == "route" {
-            return Some(KeyKind::Routes);
+impl FromStr for KeyKind {
+    type Err = UnknownKeys;
+
+    ghost from_str_gives = { KeyKindOfWord };
+
+    fn from_str(word: &str) -> Result<KeyKind, UnknownKeys> {
+        match word {
+            "route" => Ok(KeyKind::Routes),
+            "section" => Ok(KeyKind::Sections),
+            "area-route" => Ok(KeyKind::AreaRoutes),
+            "area-section" => Ok(KeyKind::AreaSections),
+            _ => Err(UnknownKeys),
         }
-        if word == "section" {
-            return Some(KeyKind::Sections);
-        }
-        if word == "area-route" {
-            return Some(KeyKind::AreaRoutes);
-        }
-        if word == "area-section" {
-            return Some(KeyKind::AreaSections);
-        }
-        None
     }
 }
 
-#[derive(Clone, Copy)]
+#[derive(Clone, Copy, PartialEq, Eq, Debug)]
 pub enum TallyKind {
     Numbers,
     ByClass,
     NumbersByClass,
 }
 
-impl TallyKind {
-    // The kind of that word; none where no kind has it.
-    pub fn from_word(word: &str) -> Option<TallyKind>
-        ensures { MatchOption result ((k : TallyKind) → tally_word k ≢ word.now) (λ k. tally_word k ≡ word.now) }
-    {
-        if word == "number" {
-            return Some(TallyKind::Numbers);
+impl FromStr for TallyKind {
+    type Err = UnknownTallies;
+
+    ghost from_str_gives = { TallyKindOfWord };
+
+    fn from_str(word: &str) -> Result<TallyKind, UnknownTallies> {
+        match word {
+            "number" => Ok(TallyKind::Numbers),
+            "classes" => Ok(TallyKind::ByClass),
+            "number+classes" => Ok(TallyKind::NumbersByClass),
+            _ => Err(UnknownTallies),
         }
-        if word == "classes" {
-            return Some(TallyKind::ByClass);
-        }
-        if word == "number+classes" {
-            return Some(TallyKind::NumbersByClass);
-        }
-        None
     }
 }

@@ -3,7 +3,7 @@ ghost use Rattle.std.specs.Prelude.{string_bytes};
 ghost use Rattle.listing.specs.Reports.{Printing};
 ghost use Rattle.listing.specs.Kinds.{Listed};
 
-use super::faults::fault_text;
+use super::faults::Damage;
 use super::kinds::{KeyKind, TallyKind};
 use super::rows::list_rows;
 use archive::Archive;
@@ -22,7 +22,15 @@ pub fn report<K: PrintedKey, T: PrintedTally<K>>(
 {
     match Archive::<K, T>::open(bytes) {
         Ok(archive) => list_rows::<K, T>(heap, &archive),
-        Err(fault) => fault_text(heap, K::width(), T::width(), bytes, fault),
+        Err(fault) => {
+            let damage = Damage {
+                bytes,
+                key: K::width(),
+                tally: T::width(),
+                fault,
+            };
+            format!(in heap; "{damage}")
+        }
     }
 }
 
@@ -48,11 +56,9 @@ pub fn list(
         (KeyKind::AreaSections, TallyKind::Numbers) => Some(report::<Area<Section>, Number>(
             heap, bytes,
         )),
-        (KeyKind::Sections, TallyKind::ByClass) => None,
-        (KeyKind::Sections, TallyKind::NumbersByClass) => None,
-        (KeyKind::AreaRoutes, TallyKind::ByClass) => None,
-        (KeyKind::AreaRoutes, TallyKind::NumbersByClass) => None,
-        (KeyKind::AreaSections, TallyKind::ByClass) => None,
-        (KeyKind::AreaSections, TallyKind::NumbersByClass) => None,
+        (
+            KeyKind::Sections | KeyKind::AreaRoutes | KeyKind::AreaSections,
+            TallyKind::ByClass | TallyKind::NumbersByClass,
+        ) => None,
     }
 }

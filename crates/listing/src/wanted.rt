@@ -1,10 +1,11 @@
 // What stands in the field of a file, as it must be.
-ghost use Rattle.std.specs.Prelude.{◌≡◌};
+ghost use Rattle.std.specs.Prelude.{◌≡◌, Some};
 ghost use Rattle.listing.specs.FaultTexts.{in_header_wanted, in_request_wanted, in_answer_wanted, wanted, wanted_text};
 
 use keys::Refusal;
+use std::fmt;
 
-#[derive(Clone, Copy)]
+#[derive(Clone, Copy, PartialEq, Eq, Debug)]
 pub enum Wanted {
     Kinds,
     Length,
@@ -27,11 +28,11 @@ pub enum Wanted {
     NoTally,
 }
 
-impl Wanted {
-    pub fn text(self) -> &'static str
-        ensures { result.now ≡ wanted_text self }
-    {
-        match self {
+impl fmt::Display for Wanted {
+    ghost output = { λ wanted. Some (wanted_text wanted) };
+
+    fn fmt<W: fmt::Write>(&self, f: &mut fmt::Formatter<W>) -> fmt::Result {
+        f.write_str(match self {
             Wanted::Kinds => "kinds of at most 16 bytes",
             Wanted::Length => "a header of 36 bytes and an end where the header tells it,",
             Wanted::Edition => "edition 1",
@@ -51,9 +52,11 @@ impl Wanted {
             Wanted::Code => "a code that answers the request, or 0,",
             Wanted::ThreeZeros => "three zero bytes",
             Wanted::NoTally => "zero bytes, as there is no tally,",
-        }
+        })
     }
+}
 
+impl Wanted {
     fn in_header(at: usize) -> Wanted
         ensures { result ≡ in_header_wanted at }
     {
@@ -92,15 +95,15 @@ impl Wanted {
         }
     }
 
-    // What was expected, by the refusal and the place of the field.
+    // What was expected, by the refusal and the place of the field; only five refusals are told of a file.
     pub fn of(refusal: Refusal, at: usize) -> Wanted
         ensures { result ≡ wanted refusal at }
     {
-        match u8::from(refusal) {
-            16 => Wanted::Kinds,
-            13 => Wanted::Length,
-            12 => Wanted::in_header(at),
-            14 => Wanted::in_request(at),
+        match refusal {
+            Refusal::TooWide => Wanted::Kinds,
+            Refusal::FileLength => Wanted::Length,
+            Refusal::HeaderField => Wanted::in_header(at),
+            Refusal::RequestRow => Wanted::in_request(at),
             _ => Wanted::in_answer(at),
         }
     }

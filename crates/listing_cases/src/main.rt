@@ -1,18 +1,13 @@
 // Lists files of each pair of kinds, and damaged ones.
 #![tactic(auto)]
 
-use anyhow::anyhow;
 use listing::{KeyKind, TallyKind, list};
 use std::fs;
 
 fn one(rt: &HostRuntime, keys: &str, tallies: &str, path: &str) -> anyhow::Result<()> {
     println!(rt; "{keys} {tallies} {path}")?;
-    let Some(keys) = KeyKind::from_word(keys) else {
-        return Err(anyhow!("no such kind of key"));
-    };
-    let Some(tallies) = TallyKind::from_word(tallies) else {
-        return Err(anyhow!("no such kind of tally"));
-    };
+    let keys = keys.parse::<KeyKind>()?;
+    let tallies = tallies.parse::<TallyKind>()?;
     let bytes = fs::read(rt, path)?;
     match list(rt.alloc(), keys, tallies, bytes.as_slice()) {
         None => println!(rt; "not of such keys")?,
@@ -43,11 +38,7 @@ fn damaged(rt: &HostRuntime) -> anyhow::Result<()> {
     one(rt, "route", "classes", "pair.archive")
 }
 
-fn run(rt: &HostRuntime) -> anyhow::Result<()> {
-    whole(rt)?;
-    damaged(rt)
-}
-
 fn main(rt: HostRuntime) -> anyhow::Result<()> {
-    run(&rt)
+    whole(&rt)?;
+    damaged(&rt)
 }

@@ -1,6 +1,6 @@
--- Routes and their five bytes. Rests on HighFirst.
-use Rattle.std.specs.Prelude.{◌≡◌, ℕ, ◌%◌, ◌<◌, Bool, true, false, cond, ◌&&◌, List, [], ◌∷◌, ◌++◌, Some, None, Ok, Err, Option, ◌≢◌, refl}
-use Rattle.std.proofs.Common.{sym, ap, ◌∙◌, arith}
+-- Routes and their five bytes. Rests on HighFirst and Puts.
+use Rattle.std.specs.Prelude.{◌≡◌, ℕ, ◌+◌, ◌*◌, ◌%◌, ◌<◌, ◌≤◌, Bool, true, false, cond, ◌&&◌, List, [], ◌∷◌, ◌++◌, length, take, Some, None, Ok, Err, Option, ◌≢◌, slice_index, refl}
+use Rattle.std.proofs.Common.{sym, ap, ap₂, ◌∙◌, arith}
 use Rattle.keys.specs.declared.refusal.Refusal.TheVariants.{OutOfRange}
 use Rattle.keys.specs.declared.class.Class.{Class}
 use Rattle.keys.specs.declared.class.Class.TheVariants.{M, W, C, S}
@@ -10,8 +10,9 @@ use Rattle.keys.specs.Ranges.{is_signal}
 use Rattle.keys.specs.Routes.{route_made, route_of}
 use Rattle.keys.specs.RoutesLemmas.{route_path}
 use Rattle.stored.specs.Numerals.{two, value, all_bytes}
-use Rattle.stored.specs.Forms.{in_range}
-use Rattle.stored.specs.RouteBytes.{route_written, route_read, route_in, class_numbered}
+use Rattle.stored.specs.Forms.{in_range, key_got}
+use Rattle.stored.specs.Puts.{checked_through}
+use Rattle.stored.specs.RouteBytes.{route_form, route_written, route_read, route_in, class_numbered}
 use Rattle.stored.specs.HighFirst.{two_read, two_written}
 
 -- a class is the one of its number
@@ -105,3 +106,27 @@ route_read-none a b c d e h = go (class_numbered e) refl
         by true = refl
         by false = refl
     go (Some class) p = absurd (h class (class_rewritten e class p))
+
+-- the first five bytes of a row, one by one
+five_in_front : (row : List ℕ) → 5 ≤ length row → take 5 row ≡ slice_index row 0 ∷ slice_index row 1 ∷ slice_index row 2 ∷ slice_index row 3 ∷ slice_index row 4 ∷ []
+five_in_front [] h = absurd (omega arith)
+five_in_front (a ∷ []) h = absurd (omega arith)
+five_in_front (a ∷ b ∷ []) h = absurd (omega arith)
+five_in_front (a ∷ b ∷ c ∷ []) h = absurd (omega arith)
+five_in_front (a ∷ b ∷ c ∷ d ∷ []) h = absurd (omega arith)
+five_in_front (a ∷ b ∷ c ∷ d ∷ e ∷ rest) h = refl
+
+module _ (row : List ℕ) (long : 5 ≤ length row) where
+  got : in_range (route_read (slice_index row 0 ∷ slice_index row 1 ∷ slice_index row 2 ∷ slice_index row 3 ∷ slice_index row 4 ∷ [])) ≡ key_got route_form row
+  got = sym (checked_through 5 row (in_range (route_read (take 5 row))) (omega arith) long ∙ ap (λ l. in_range (route_read l)) (five_in_front row long))
+
+  -- getting a route from a row whose fifth byte is a class
+  pub route_got-class : (entry exit : ℕ) (class : Class) → slice_index row 1 < 256 → slice_index row 3 < 256 → entry ≡ slice_index row 0 * 256 + slice_index row 1 → exit ≡ slice_index row 2 * 256 + slice_index row 3 → class_number class ≡ slice_index row 4 → route_of entry exit class ≡ key_got route_form row
+  route_got-class entry exit class h k p q same =
+      let m : entry ≡ value (slice_index row 0 ∷ slice_index row 1 ∷ []) = omega arith in
+      let n : exit ≡ value (slice_index row 2 ∷ slice_index row 3 ∷ []) = omega arith in
+      ap₂ (λ m n. route_of m n class) m n ∙ route_read-class _ _ _ _ _ class h k same ∙ got
+
+  -- getting one from a row whose fifth byte is none
+  pub route_got-none : ((class : Class) → class_number class ≢ slice_index row 4) → Err OutOfRange ≡ key_got route_form row
+  route_got-none h = route_read-none (slice_index row 0) (slice_index row 1) (slice_index row 2) (slice_index row 3) (slice_index row 4) h ∙ got

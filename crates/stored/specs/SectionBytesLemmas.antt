@@ -1,6 +1,6 @@
 -- Sections and their eight bytes. Rests on the equality of sections.
-use Rattle.std.specs.Prelude.{◌≡◌, ℕ, ◌≤◌, Bool, true, false, List, [], ◌∷◌, length, take, Some, None, ◌≢◌, slice_index, refl}
-use Rattle.std.proofs.Common.{sym, ap, ◌∙◌, true≢false, arith}
+use Rattle.std.specs.Prelude.{◌≡◌, ℕ, Bool, true, false, List, Some, None, ◌≢◌, refl}
+use Rattle.std.proofs.Common.{sym, ap, ◌∙◌, true≢false}
 use Rattle.keys.specs.declared.section.Section.{Section}
 use Rattle.keys.specs.Names.{is_section}
 use Rattle.keys.specs.Sections.{section_made, section_by}
@@ -22,15 +22,3 @@ section_read_lost bytes h = go (is_section bytes) refl h
     go : (named : Bool) (e : is_section bytes ≡ named) → ((section_by bytes named e).bytes ≢ bytes) → section_if bytes named e ≡ None
     go true e h = absurd (h refl)
     go false e h = refl
-
--- the first eight bytes of a row, one by one
-pub eight_in_front : (row : List ℕ) → 8 ≤ length row → take 8 row ≡ slice_index row 0 ∷ slice_index row 1 ∷ slice_index row 2 ∷ slice_index row 3 ∷ slice_index row 4 ∷ slice_index row 5 ∷ slice_index row 6 ∷ slice_index row 7 ∷ []
-eight_in_front [] h = absurd (omega arith)
-eight_in_front (a ∷ []) h = absurd (omega arith)
-eight_in_front (a ∷ b ∷ []) h = absurd (omega arith)
-eight_in_front (a ∷ b ∷ c ∷ []) h = absurd (omega arith)
-eight_in_front (a ∷ b ∷ c ∷ d ∷ []) h = absurd (omega arith)
-eight_in_front (a ∷ b ∷ c ∷ d ∷ e ∷ []) h = absurd (omega arith)
-eight_in_front (a ∷ b ∷ c ∷ d ∷ e ∷ f ∷ []) h = absurd (omega arith)
-eight_in_front (a ∷ b ∷ c ∷ d ∷ e ∷ f ∷ g ∷ []) h = absurd (omega arith)
-eight_in_front (a ∷ b ∷ c ∷ d ∷ e ∷ f ∷ g ∷ i ∷ rest) h = refl

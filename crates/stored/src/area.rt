@@ -6,8 +6,7 @@ ghost use Rattle.stored.specs.AreaBytesLemmas.{area_rewritten};
 ghost use Rattle.std.proofs.Common.{rules};
 
 use super::key::StoredKey;
-use super::numerals::{from_two, two_bytes};
-use super::width::{WIDEST, width_of};
+use super::width::{fits, width_of};
 use keys::{Area, Refusal};
 
 impl<K: StoredKey> StoredKey for Area<K> {
@@ -27,31 +26,16 @@ impl<K: StoredKey> StoredKey for Area<K> {
 
     fn put(self, row: &mut [u8]) -> Result<usize, Refusal> {
         let width = 2 + K::width();
-        if width > WIDEST {
-            return Err(Refusal::TooWide);
-        }
-        if row.len() < width {
-            return Err(Refusal::TooShort);
-        }
-        let number = two_bytes(self.number);
+        fits(width, row)?;
         self.key.put(&mut row[2..])?;
-        row[0] = number[0];
-        row[1] = number[1];
+        row[0..2].copy_from_slice(&self.number.to_be_bytes());
         Ok(width)
     }
 
     fn get(row: &[u8]) -> Result<Area<K>, Refusal> {
-        let width = 2 + K::width();
-        if width > WIDEST {
-            return Err(Refusal::TooWide);
-        }
-        if row.len() < width {
-            return Err(Refusal::TooShort);
-        }
-        let number = from_two(row[0], row[1]);
-        match K::get(&row[2..]) {
-            Ok(key) => Ok(Area { number, key }),
-            Err(refusal) => Err(refusal),
-        }
+        fits(2 + K::width(), row)?;
+        let number = u16::from_be_bytes([row[0], row[1]]);
+        let key = K::get(&row[2..])?;
+        Ok(Area { number, key })
     }
 }

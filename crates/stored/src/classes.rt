@@ -3,7 +3,6 @@ ghost use Rattle.stored.specs.NumberBytes.{classes_form};
 ghost use Rattle.stored.specs.NumberBytesLemmas.{classes_reread, classes_rewritten};
 ghost use Rattle.std.proofs.Common.{rules};
 
-use super::numerals::{from_two, two_bytes};
 use super::tally::StoredTally;
 use keys::{Class, Refusal, Route};
 use tallies::Classes;
@@ -22,28 +21,22 @@ impl StoredTally<Route> for Classes {
     }
 
     fn put(self, row: &mut [u8]) -> Result<usize, Refusal> {
-        if row.len() < 8 {
-            return Err(Refusal::TooShort);
-        }
-        let m = two_bytes(self.count(Class::M));
-        let w = two_bytes(self.count(Class::W));
-        let c = two_bytes(self.count(Class::C));
-        let s = two_bytes(self.count(Class::S));
-        row[0..2].copy_from_slice(&m);
-        row[2..4].copy_from_slice(&w);
-        row[4..6].copy_from_slice(&c);
-        row[6..8].copy_from_slice(&s);
+        let front = row.first_chunk_mut::<8>().ok_or(Refusal::TooShort)?;
+        front[0..2].copy_from_slice(&self.count(Class::M).to_be_bytes());
+        front[2..4].copy_from_slice(&self.count(Class::W).to_be_bytes());
+        front[4..6].copy_from_slice(&self.count(Class::C).to_be_bytes());
+        front[6..8].copy_from_slice(&self.count(Class::S).to_be_bytes());
         Ok(8)
     }
 
     fn get(row: &[u8]) -> Result<Classes, Refusal> {
-        if row.len() < 8 {
-            return Err(Refusal::TooShort);
-        }
-        let m = from_two(row[0], row[1]);
-        let w = from_two(row[2], row[3]);
-        let c = from_two(row[4], row[5]);
-        let s = from_two(row[6], row[7]);
-        Ok(Classes::new(m, w, c, s))
+        let front = row.first_chunk::<8>().ok_or(Refusal::TooShort)?;
+        let [a, b, c, d, e, f, g, h] = *front;
+        Ok(Classes::new(
+            u16::from_be_bytes([a, b]),
+            u16::from_be_bytes([c, d]),
+            u16::from_be_bytes([e, f]),
+            u16::from_be_bytes([g, h]),
+        ))
     }
 }

@@ -5,7 +5,6 @@ mod area;
 mod classes;
 mod key;
 mod number;
-mod numerals;
 mod pair;
 mod route;
 mod section;
@@ -13,6 +12,5 @@ mod tally;
 mod width;
 
 pub use key::StoredKey;
-pub use numerals::{four_bytes, from_four};
 pub use tally::StoredTally;
 pub use width::WIDEST;

@@ -3,7 +3,6 @@ ghost use Rattle.stored.specs.NumberBytes.{number_form};
 ghost use Rattle.stored.specs.NumberBytesLemmas.{number_reread, number_rewritten};
 ghost use Rattle.std.proofs.Common.{rules};
 
-use super::numerals::{four_bytes, from_four};
 use super::tally::StoredTally;
 use keys::{Key, Refusal};
 use tallies::Number;
@@ -22,18 +21,13 @@ impl<K: Key> StoredTally<K> for Number {
     }
 
     fn put(self, row: &mut [u8]) -> Result<usize, Refusal> {
-        if row.len() < 4 {
-            return Err(Refusal::TooShort);
-        }
-        let bytes = four_bytes(self.value());
-        row[0..4].copy_from_slice(&bytes);
+        let front = row.first_chunk_mut::<4>().ok_or(Refusal::TooShort)?;
+        *front = self.value().to_be_bytes();
         Ok(4)
     }
 
     fn get(row: &[u8]) -> Result<Number, Refusal> {
-        if row.len() < 4 {
-            return Err(Refusal::TooShort);
-        }
-        Ok(Number::new(from_four(row[0], row[1], row[2], row[3])))
+        let front = row.first_chunk::<4>().ok_or(Refusal::TooShort)?;
+        Ok(Number::new(u32::from_be_bytes(*front)))
     }
 }

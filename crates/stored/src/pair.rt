@@ -5,7 +5,7 @@ ghost use Rattle.std.specs.Prelude.{◌+◌};
 ghost use Rattle.stored.specs.PairBytesLemmas.{pair_reread, pair_rewritten};
 
 use super::tally::StoredTally;
-use super::width::{WIDEST, width_of};
+use super::width::{fits, width_of};
 use keys::{Key, Refusal};
 use tallies::Pair;
 
@@ -25,12 +25,7 @@ impl<K: Key, A: StoredTally<K>, B: StoredTally<K>> StoredTally<K> for Pair<A, B>
     fn put(self, row: &mut [u8]) -> Result<usize, Refusal> {
         let front = A::width();
         let width = front + B::width();
-        if width > WIDEST {
-            return Err(Refusal::TooWide);
-        }
-        if row.len() < width {
-            return Err(Refusal::TooShort);
-        }
+        fits(width, row)?;
         self.first.put(row)?;
         self.second.put(&mut row[front..])?;
         Ok(width)
@@ -38,13 +33,7 @@ impl<K: Key, A: StoredTally<K>, B: StoredTally<K>> StoredTally<K> for Pair<A, B>
 
     fn get(row: &[u8]) -> Result<Pair<A, B>, Refusal> {
         let front = A::width();
-        let width = front + B::width();
-        if width > WIDEST {
-            return Err(Refusal::TooWide);
-        }
-        if row.len() < width {
-            return Err(Refusal::TooShort);
-        }
+        fits(front + B::width(), row)?;
         let first = A::get(row)?;
         let second = B::get(&row[front..])?;
         Ok(Pair { first, second })

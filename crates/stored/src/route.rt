@@ -6,20 +6,7 @@ ghost use Rattle.stored.specs.RouteBytesLemmas.{route_reread, route_rewritten};
 ghost use Rattle.std.proofs.Common.{rules};
 
 use super::key::StoredKey;
-use super::numerals::{from_two, two_bytes};
 use keys::{Class, Refusal, Route};
-
-// The route of these five bytes.
-fn route_of(a: u8, b: u8, c: u8, d: u8, e: u8) -> Result<Route, Refusal>
-    ensures { result ≡ in_range (route_read (a ∷ b ∷ c ∷ d ∷ e ∷ [])) }
-{
-    let entry = from_two(a, b) as u32;
-    let exit = from_two(c, d) as u32;
-    match Class::try_from(e) {
-        Ok(class) => Route::new(entry, exit, class),
-        Err(refusal) => Err(refusal),
-    }
-}
 
 impl StoredKey for Route {
     ghost form = { route_form };
@@ -37,23 +24,19 @@ impl StoredKey for Route {
     }
 
     fn put(self, row: &mut [u8]) -> Result<usize, Refusal> {
-        if row.len() < 5 {
-            return Err(Refusal::TooShort);
-        }
-        let entry = two_bytes(self.entry());
-        let exit = two_bytes(self.exit());
-        row[0] = entry[0];
-        row[1] = entry[1];
-        row[2] = exit[0];
-        row[3] = exit[1];
-        row[4] = u8::from(self.class());
+        let front = row.first_chunk_mut::<5>().ok_or(Refusal::TooShort)?;
+        front[0..2].copy_from_slice(&self.entry().to_be_bytes());
+        front[2..4].copy_from_slice(&self.exit().to_be_bytes());
+        front[4] = u8::from(self.class());
         Ok(5)
     }
 
     fn get(row: &[u8]) -> Result<Route, Refusal> {
-        let [a, b, c, d, e, ..] = row else {
+        let &[a, b, c, d, e, ..] = row else {
             return Err(Refusal::TooShort);
         };
-        route_of(*a, *b, *c, *d, *e)
+        let entry = u16::from_be_bytes([a, b]);
+        let exit = u16::from_be_bytes([c, d]);
+        Route::new(entry as u32, exit as u32, Class::try_from(e)?)
     }
 }

@@ -35,20 +35,13 @@ impl StoredKey for Section {
     }
 
     fn put(self, row: &mut [u8]) -> Result<usize, Refusal> {
-        if row.len() < 8 {
-            return Err(Refusal::TooShort);
-        }
-        let bytes = self.fields();
-        row[0..8].copy_from_slice(&bytes);
+        let front = row.first_chunk_mut::<8>().ok_or(Refusal::TooShort)?;
+        *front = self.fields();
         Ok(8)
     }
 
     fn get(row: &[u8]) -> Result<Section, Refusal> {
-        if row.len() < 8 {
-            return Err(Refusal::TooShort);
-        }
-        section_of([
-            row[0], row[1], row[2], row[3], row[4], row[5], row[6], row[7],
-        ])
+        let front = row.first_chunk::<8>().ok_or(Refusal::TooShort)?;
+        section_of(*front)
     }
 }

@@ -1,6 +1,8 @@
-// The width of a stored kind.
-ghost use Rattle.std.specs.Prelude.{◌≡◌};
-ghost use Rattle.stored.specs.Forms.{width_of};
+// The width of a stored kind, and whether a row has room for it.
+ghost use Rattle.std.specs.Prelude.{◌≡◌, ◌≤◌, length, Ok, OnOk};
+ghost use Rattle.stored.specs.Forms.{width_of, checked};
+
+use keys::Refusal;
 
 // The most bytes that a key or a tally has in a row.
 pub const WIDEST: usize = 16;
@@ -9,8 +11,20 @@ pub const WIDEST: usize = 16;
 pub fn width_of(size: usize) -> usize
     ensures { result ≡ width_of size }
 {
+    size.min(WIDEST + 1)
+}
+
+// Whether values of so many bytes are not too wide and the row not too short; else the first that is.
+pub fn fits(size: usize, row: &[u8]) -> Result<(), Refusal>
+    ensures answer { result ≡ checked size row.now (Ok tt) }
+    ensures narrow { OnOk result (size ≤ 16) }
+    ensures room { OnOk result (size ≤ length row.now) }
+{
     if size > WIDEST {
-        return WIDEST + 1;
+        return Err(Refusal::TooWide);
     }
-    size
+    if row.len() < size {
+        return Err(Refusal::TooShort);
+    }
+    Ok(())
 }

@@ -1,12 +1,14 @@
 -- Header, request rows and answer rows, put one after the other, are the file. Rests on the file's length.
-use Rattle.std.proofs.Common.{◌≡◌, ℕ, ◌+◌, ◌-◌, ◌*◌, ◌<◌, ◌≤◌, true, false, ◌||◌, ltb, List, ◌++◌, length, take, drop, Ok, Err, sym, refl, ap, ◌∙◌, ap₂, arith, length-append, le-ltb, lt-ltb}
+use Rattle.std.proofs.Common.{◌≡◌, ℕ, ◌+◌, ◌-◌, ◌*◌, ◌<◌, ◌≤◌, Bool, true, false, ◌||◌, ltb, List, ◌++◌, length, take, drop, Some, None, Ok, Err, sym, refl, ap, ◌∙◌, ap₂, arith, length-append, le-ltb, lt-ltb}
 use borrow.Rule.Slice.PartMut.{put_mid}
 use Rattle.std.proofs.lemmas.List.{take_at, drop_at, drop-drop, append_assoc}
 use Rattle.std.specs.List.{flat_map}
-use Rattle.keys.specs.declared.refusal.Refusal.TheVariants.{TooShort}
+use Rattle.keys.specs.declared.refusal.Refusal.{Refusal}
+use Rattle.keys.specs.declared.refusal.Refusal.TheVariants.{TooShort, TooWide}
 use Rattle.requests.specs.declared.row.Row.{Row}
-use Rattle.stored.specs.Forms.{KeyForm, TallyForm, width_of}
-use Rattle.archive.specs.Format.{request_length, answer_length, header, request_row, answer_row, file}
+use Rattle.stored.specs.Forms.{KeyForm, TallyForm}
+use Rattle.archive.specs.Format.{request_length, answer_length, answers_start, file_length, header, request_row, answer_row, file}
+use Rattle.archive.specs.Layouts.{layout_refused}
 use Rattle.archive.proofs.Laws.{KeyLaws, TallyLaws}
 use Rattle.archive.proofs.RowBytes.{joined_long, request_row_long, answer_row_long}
 use Rattle.archive.proofs.Files.{file_long, rows_long}
@@ -27,50 +29,53 @@ put_three before first H R A a e h ra ea f =
     let past_two : drop (e - a) (drop a (put_mid 36 (a - 36) first R)) ≡ drop e before = ap (drop (e - a)) back-two ∙ drop-drop (e - a) a before ∙ ap (λ n. drop n before) reach-end in
     ap₂ (λ x y. x ++ y) front-two (ap (λ l. A ++ l) past_two) ∙ sym (append_assoc (H ++ R) A (drop e before)) ∙ ap (λ l. l ++ drop e before) (append_assoc H R A)
 
-module _ {K T : Type 0} (keys : KeyForm K) (tallies : TallyForm T) (key_laws : KeyLaws keys) (tally-laws : TallyLaws tallies) (rows : List (Row K T)) (count key tally : ℕ) (counted : count ≡ length rows) (key-width : key ≡ width_of keys.size) (tally-width : tally ≡ width_of tallies.size) (key_fits : key ≤ 16) (tally_fits : tally ≤ 16) where
-  key-same : key ≡ keys.size
-  key-same = omega arith
+-- a kind that is too wide is told
+pub wide-answer : {K T : Type 0} (keys : KeyForm K) (tallies : TallyForm T) (rows : List (Row K T)) (count : ℕ) (e : Refusal) (buffer : List ℕ) → count ≤ 1024 → layout_refused count keys.size tallies.size ≡ Some e → (Err e ≡ write_answer keys tallies rows buffer) × (buffer ≡ write_after keys tallies rows buffer)
+wide-answer keys tallies rows count e buffer few h = go (ltb 16 keys.size || ltb 16 tallies.size) refl
+  where
+    enough : ltb 1024 count ≡ false
+    enough = le-ltb _ _ few
 
-  tally-same : tally ≡ tallies.size
-  tally-same = omega arith
+    go : (b : Bool) → (ltb 16 keys.size || ltb 16 tallies.size) ≡ b → (Err e ≡ write_answer keys tallies rows buffer) × (buffer ≡ write_after keys tallies rows buffer)
+    go true w =
+        let told : Some TooWide ≡ Some e = rw w at h in
+        let same : e ≡ TooWide = cc in
+        (rw w (ap Err same), rw w)
+    go false w = let none : None ≡ Some e = rw (w, enough) at h in absurd cc
 
+module _ {K T : Type 0} (keys : KeyForm K) (tallies : TallyForm T) (key_laws : KeyLaws keys) (tally-laws : TallyLaws tallies) (rows : List (Row K T)) (count start end : ℕ) (counted : count ≡ length rows) (key_fits : keys.size ≤ 16) (tally_fits : tallies.size ≤ 16) (starts : start ≡ answers_start count keys.size) (ends : end ≡ file_length count keys.size tallies.size) where
   narrow : (ltb 16 keys.size || ltb 16 tallies.size) ≡ false
   narrow =
-      let k = key-same in
-      let t = tally-same in
-      let p : ltb 16 keys.size ≡ false = le-ltb _ _ (omega arith) in
-      let q : ltb 16 tallies.size ≡ false = le-ltb _ _ (omega arith) in
+      let p : ltb 16 keys.size ≡ false = le-ltb _ _ key_fits in
+      let q : ltb 16 tallies.size ≡ false = le-ltb _ _ tally_fits in
       rw (p, q)
 
   -- the file ends where its rows do
-  end_same : 36 + count * (4 + 2 * key) + count * (4 + tally) ≡ length (file keys tallies rows)
-  end_same =
-      let sizes : count * (4 + 2 * key) + count * (4 + tally) ≡ length rows * request_length keys.size + length rows * answer_length tallies.size = ap₂ (λ m n. m + n) (ap₂ (λ n k. n * (4 + 2 * k)) counted key-same) (ap₂ (λ n t. n * (4 + t)) counted tally-same) in
-      let split = rows_long (length rows) keys.size tallies.size in
-      let long = file_long keys tallies key_laws tally-laws rows in
-      omega arith
+  end_same : end ≡ length (file keys tallies rows)
+  end_same = ends ∙ ap (λ n. file_length n keys.size tallies.size) counted ∙ sym (file_long keys tallies key_laws tally-laws rows)
 
-  pub short-answer : (buffer : List ℕ) → length buffer < 36 + count * (4 + 2 * key) + count * (4 + tally) → Err TooShort ≡ write_answer keys tallies rows buffer
+  pub short-answer : (buffer : List ℕ) → length buffer < end → Err TooShort ≡ write_answer keys tallies rows buffer
   short-answer buffer h =
       let short : ltb (length buffer) (length (file keys tallies rows)) ≡ true = lt-ltb _ _ (omega (arith, end_same)) in
       rw (narrow, short)
 
-  pub short-after : (buffer : List ℕ) → length buffer < 36 + count * (4 + 2 * key) + count * (4 + tally) → buffer ≡ write_after keys tallies rows buffer
+  pub short-after : (buffer : List ℕ) → length buffer < end → buffer ≡ write_after keys tallies rows buffer
   short-after buffer h =
       let short : ltb (length buffer) (length (file keys tallies rows)) ≡ true = lt-ltb _ _ (omega (arith, end_same)) in
       rw (narrow, short)
 
-  pub whole-answer : (buffer : List ℕ) → 36 + count * (4 + 2 * key) + count * (4 + tally) ≤ length buffer → Ok (36 + count * (4 + 2 * key) + count * (4 + tally)) ≡ write_answer keys tallies rows buffer
+  pub whole-answer : (buffer : List ℕ) → end ≤ length buffer → Ok end ≡ write_answer keys tallies rows buffer
   whole-answer buffer h =
       let enough : ltb (length buffer) (length (file keys tallies rows)) ≡ false = le-ltb _ _ (omega (arith, end_same)) in
       rw (narrow, enough) (ap Ok end_same)
 
-  pub whole-after : (buffer first asked answered : List ℕ) → 36 + count * (4 + 2 * key) + count * (4 + tally) ≤ length buffer → first ≡ header count key tally ++ drop 36 buffer → asked ≡ flat_map (request_row keys) rows → answered ≡ flat_map (answer_row tallies) rows → put_mid (36 + count * (4 + 2 * key)) (36 + count * (4 + 2 * key) + count * (4 + tally) - (36 + count * (4 + 2 * key))) (put_mid 36 (36 + count * (4 + 2 * key) - 36) first asked) answered ≡ write_after keys tallies rows buffer
+  pub whole-after : (buffer first asked answered : List ℕ) → end ≤ length buffer → first ≡ header count keys.size tallies.size ++ drop 36 buffer → asked ≡ flat_map (request_row keys) rows → answered ≡ flat_map (answer_row tallies) rows → put_mid start (end - start) (put_mid 36 (start - 36) first asked) answered ≡ write_after keys tallies rows buffer
   whole-after buffer first asked answered h f p q =
       let enough : ltb (length buffer) (length (file keys tallies rows)) ≡ false = le-ltb _ _ (omega (arith, end_same)) in
-      let asked-long : length asked ≡ count * (4 + 2 * key) = ap length p ∙ joined_long (request_row keys) (request_length keys.size) (request_row_long keys key_laws) rows ∙ sym (ap₂ (λ n k. n * (4 + 2 * k)) counted key-same) in
-      let answered-long : length answered ≡ count * (4 + tally) = ap length q ∙ joined_long (answer_row tallies) (answer_length tallies.size) (answer_row_long tallies tally-laws) rows ∙ sym (ap₂ (λ n t. n * (4 + t)) counted tally-same) in
-      let put = put_three buffer first (header count key tally) asked answered (36 + count * (4 + 2 * key)) (36 + count * (4 + 2 * key) + count * (4 + tally)) refl (omega arith) (omega arith) f in
-      let headed : header count key tally ≡ header (length rows) keys.size tallies.size = ap₂ (λ n k. header n k tally) counted key-same ∙ ap (header (length rows) keys.size) tally-same in
-      let filed : header count key tally ++ (asked ++ answered) ≡ file keys tallies rows = ap₂ (λ x y. x ++ y) headed (ap₂ (λ x y. x ++ y) p q) in
+      let asked-long : length asked ≡ count * request_length keys.size = ap length p ∙ joined_long (request_row keys) (request_length keys.size) (request_row_long keys key_laws) rows ∙ ap (λ n. n * request_length keys.size) (sym counted) in
+      let answered-long : length answered ≡ count * answer_length tallies.size = ap length q ∙ joined_long (answer_row tallies) (answer_length tallies.size) (answer_row_long tallies tally-laws) rows ∙ ap (λ n. n * answer_length tallies.size) (sym counted) in
+      let split = rows_long count keys.size tallies.size in
+      let put = put_three buffer first (header count keys.size tallies.size) asked answered start end refl (omega arith) (omega arith) f in
+      let headed : header count keys.size tallies.size ≡ header (length rows) keys.size tallies.size = ap (λ n. header n keys.size tallies.size) counted in
+      let filed : header count keys.size tallies.size ++ (asked ++ answered) ≡ file keys tallies rows = ap₂ (λ x y. x ++ y) headed (ap₂ (λ x y. x ++ y) p q) in
       put ∙ ap₂ (λ l n. l ++ drop n buffer) filed end_same ∙ sym (rw (narrow, enough))

@@ -1,28 +1,18 @@
 // Writing the header.
-ghost use Rattle.std.specs.Prelude.{◌≡◌, ◌+◌, ◌*◌, ◌^◌, ◌<◌, ◌≤◌, ◌++◌, length, drop};
-ghost use Rattle.archive.specs.Format.{header, header_fields};
+ghost use Rattle.std.specs.Prelude.{◌≡◌, ◌≤◌, ◌++◌, length, drop};
+ghost use Rattle.archive.specs.Format.{header};
 
-use stored::four_bytes;
-
-// The nine fields.
-fn header_fields(rows: u32, key: u32, tally: u32) -> [u32; 9]
-    requires { (rows ≤ 1024) × ((key ≤ 16) × (tally ≤ 16)) }
-    ensures { result ≡ header_fields rows key tally }
-{
-    let request = 4 + 2 * key;
-    let answers = 36 + rows * request;
-    let end = 36 + rows * (8 + 2 * key + tally);
-    [1, rows, key, tally, request, 4 + tally, 36, answers, end]
-}
+use archive::Layout;
+use stored::{StoredKey, StoredTally};
 
 // Writes the header to the front.
-pub fn put_header(buffer: &mut [u8], rows: u32, key: u32, tally: u32)
-    requires { (36 ≤ length buffer.old) × ((rows ≤ 1024) × ((key ≤ 16) × (tally ≤ 16))) }
-    ensures { buffer.new ≡ header rows key tally ++ drop 36 buffer.old }
+pub fn put_header<K: StoredKey, T: StoredTally<K>>(layout: &Layout<K, T>, buffer: &mut [u8])
+    requires { 36 ≤ length buffer.old }
+    ensures { buffer.new ≡ header layout.now.rows K.StoredKey.form.size T.StoredTally.form.size ++ drop 36 buffer.old }
 {
-    let fields = header_fields(rows, key, tally);
-    for i in 0..9 {
-        let bytes = four_bytes(fields[i]);
-        buffer[4 * i..4 * i + 4].copy_from_slice(&bytes);
+    let fields = layout.header_fields();
+    for (i, field) in fields.iter().enumerate() {
+        // Kept: what is written through the library's mutable chunks is not known after the loop.
+        buffer[4 * i..4 * i + 4].copy_from_slice(&field.to_be_bytes());
     }
 }

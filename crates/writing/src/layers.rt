@@ -1,74 +1,46 @@
-// Writing all request rows and all answer rows.
-ghost use Rattle.std.specs.Prelude.{◌≡◌, ◌*◌, ◌≤◌, List, length, Ok, Err};
+// Writing one part of every row: all request rows, or all answer rows.
+ghost use Rattle.std.specs.Prelude.{◌≡◌, ◌*◌, List, length, Ok, Err};
 ghost use Rattle.std.specs.List.{flat_map};
 ghost use Rattle.requests.specs.declared.row.Row.{Row};
-ghost use Rattle.archive.specs.Format.{request_length, answer_length, request_row, answer_row};
 
-use super::row_bytes::{put_answer, put_request};
+use super::part::Part;
 use super::source::Rows;
+use archive::Layout;
 use keys::Refusal;
 use requests::Row;
 use stored::{StoredKey, StoredTally};
 
-// Writes the request of a row that is given.
-fn put_given_request<K: StoredKey, T: StoredTally<K>>(
-    row: Result<Row<K, T>, Refusal>,
-    width: usize,
-    part: &mut [u8],
-)
-    requires { (K.StoredKey.form.size ≤ 16) × ((width ≡ K.StoredKey.form.size) × (length part.old ≡ request_length width)) }
-    ensures written { (w : Row K T) → row ≡ Ok w → part.new ≡ request_row K.StoredKey.form w }
-    ensures kept { (e : Refusal) → row ≡ Err e → part.new ≡ part.old }
-{
-    if let Ok(row) = row {
-        put_request::<K, T>(&row, width, part);
-    }
-}
-
-// Writes the answer of a row that is given.
-fn put_given_answer<K: StoredKey, T: StoredTally<K>>(
+// Writes the part of a row that is given.
+fn put_given<K: StoredKey, T: StoredTally<K>, P: Part<K, T>>(
+    layout: &Layout<K, T>,
     row: Result<Row<K, T>, Refusal>,
     part: &mut [u8],
 )
-    requires { (T.StoredTally.form.size ≤ 16) × (length part.old ≡ answer_length T.StoredTally.form.size) }
-    ensures written { (w : Row K T) → row ≡ Ok w → part.new ≡ answer_row T.StoredTally.form w }
+    requires { length part.old ≡ P.size }
+    ensures written { (w : Row K T) → row ≡ Ok w → part.new ≡ P.bytes w }
     ensures kept { (e : Refusal) → row ≡ Err e → part.new ≡ part.old }
 {
     if let Ok(row) = row {
-        put_answer::<K, T>(&row, part);
+        P::put(layout, &row, part);
     }
 }
 
-pub fn put_requests<K: StoredKey, T: StoredTally<K>, S: Rows<K, T>>(
+// Writes the part of every row, one after the other.
+pub fn put_all<K: StoredKey, T: StoredTally<K>, S: Rows<K, T>, P: Part<K, T>>(
+    layout: &Layout<K, T>,
     source: &S,
-    part: &mut [u8],
-    count: usize,
-    width: usize,
+    parts: &mut [u8],
 )
-    requires { (K.StoredKey.form.size ≤ 16) × ((width ≡ K.StoredKey.form.size) × ((count ≤ 1024) × (length part.old ≡ count * request_length width))) }
-    ensures { (rows : List (Row K T)) → S.Rows.has source.now rows → count ≡ length rows → part.new ≡ flat_map (request_row K.StoredKey.form) rows }
+    requires { length parts.old ≡ layout.now.rows * P.size }
+    ensures { (rows : List (Row K T)) → S.has source.now rows → layout.now.rows ≡ length rows → parts.new ≡ flat_map P.bytes rows }
 {
-    let size = 4 + 2 * width;
-    for i in 0..count {
-        put_given_request(
+    let size = P::length(layout);
+    // Kept: what is written through the library's mutable chunks is not known after the loop.
+    for i in 0..layout.rows() {
+        put_given::<K, T, P>(
+            layout,
             source.row(i + 1),
-            width,
-            &mut part[i * size..i * size + size],
+            &mut parts[i * size..i * size + size],
         );
-    }
-}
-
-pub fn put_answers<K: StoredKey, T: StoredTally<K>, S: Rows<K, T>>(
-    source: &S,
-    part: &mut [u8],
-    count: usize,
-    width: usize,
-)
-    requires { (T.StoredTally.form.size ≤ 16) × ((width ≡ T.StoredTally.form.size) × ((count ≤ 1024) × (length part.old ≡ count * answer_length width))) }
-    ensures { (rows : List (Row K T)) → S.Rows.has source.now rows → count ≡ length rows → part.new ≡ flat_map (answer_row T.StoredTally.form) rows }
-{
-    let size = 4 + width;
-    for i in 0..count {
-        put_given_answer(source.row(i + 1), &mut part[i * size..i * size + size]);
     }
 }

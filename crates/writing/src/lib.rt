@@ -5,6 +5,7 @@ mod again;
 mod header;
 mod layers;
 mod of_archive;
+mod part;
 mod row_bytes;
 mod source;
 mod writer;

@@ -7,14 +7,11 @@ use keys::Refusal;
 use requests::Row;
 use stored::{StoredKey, StoredTally};
 
-const MOST_ROWS: usize = 1024;
-
 impl<'a, K: StoredKey, T: StoredTally<K>> Rows<K, T> for Archive<'a, K, T> {
     ghost has = { λ a rows. Opened K.StoredKey.form T.StoredTally.form a rows };
 
-    // No accepted file has more rows than an archive may have.
     fn count(&self) -> usize {
-        self.count().min(MOST_ROWS)
+        self.count()
     }
 
     fn row(&self, number: usize) -> Result<Row<K, T>, Refusal> {

@@ -4,12 +4,12 @@ ghost use Rattle.requests.specs.declared.row.Row.{Row};
 ghost use Rattle.writing.specs.Written.{write_answer, write_after};
 
 use super::header::put_header;
-use super::layers::{put_answers, put_requests};
+use super::layers::put_all;
+use super::row_bytes::{AnswerPart, RequestPart};
 use super::source::Rows;
+use archive::{HEADER_LENGTH, Layout};
 use keys::Refusal;
-use stored::{StoredKey, StoredTally, WIDEST};
-
-const HEADER_LENGTH: usize = 36;
+use stored::{StoredKey, StoredTally};
 
 // Writes the file of the source's rows to the front of the bytes, and answers its length.
 pub fn write<K: StoredKey, T: StoredTally<K>, S: Rows<K, T>>(
@@ -20,22 +20,14 @@ pub fn write<K: StoredKey, T: StoredTally<K>, S: Rows<K, T>>(
     ensures after { (rows : List (Row K T)) → S.Rows.has source.now rows → buffer.new ≡ write_after K.StoredKey.form T.StoredTally.form rows buffer.old }
     ensures kept { is_ok result ≡ false → buffer.new ≡ buffer.old }
 {
-    let key = K::width();
-    let tally = T::width();
-    if key > WIDEST {
-        return Err(Refusal::TooWide);
-    }
-    if tally > WIDEST {
-        return Err(Refusal::TooWide);
-    }
-    let count = source.count();
-    let answers = HEADER_LENGTH + count * (4 + 2 * key);
-    let end = answers + count * (4 + tally);
+    let layout = Layout::<K, T>::new(source.count())?;
+    let answers = layout.answers_start();
+    let end = layout.end();
     if buffer.len() < end {
         return Err(Refusal::TooShort);
     }
-    put_header(buffer, count as u32, key as u32, tally as u32);
-    put_requests::<K, T, S>(source, &mut buffer[HEADER_LENGTH..answers], count, key);
-    put_answers::<K, T, S>(source, &mut buffer[answers..end], count, tally);
+    put_header(&layout, buffer);
+    put_all::<K, T, S, RequestPart>(&layout, source, &mut buffer[HEADER_LENGTH..answers]);
+    put_all::<K, T, S, AnswerPart>(&layout, source, &mut buffer[answers..end]);
     Ok(end)
 }

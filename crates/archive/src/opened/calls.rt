@@ -5,11 +5,9 @@ ghost use Rattle.archive.specs.Checks.{fault_of};
 ghost use Rattle.archive.specs.Theorems.{FileOf, WrittenIsRead, ReadIsWritten};
 ghost use Rattle.archive.specs.Opened.{Opened};
 
-use super::super::checking::file_fault;
+use super::super::checking::check_file;
 use super::super::fault::Fault;
-use super::super::header::field;
 use super::Archive;
-use std::marker::PhantomData;
 use stored::{StoredKey, StoredTally};
 
 impl<'a, K: StoredKey, T: StoredTally<K>> Archive<'a, K, T> {
@@ -21,19 +19,15 @@ impl<'a, K: StoredKey, T: StoredTally<K>> Archive<'a, K, T> {
         ensures written { WrittenIsRead K.StoredKey.form T.StoredTally.form }
         ensures read { ReadIsWritten K.StoredKey.form T.StoredTally.form }
     {
-        match file_fault::<K, T>(bytes) {
-            Some(fault) => Err(fault),
-            None => Ok(Archive {
-                bytes,
-                count: field(bytes, 4),
-                kinds: PhantomData,
-            }),
-        }
+        let layout = check_file(bytes)?;
+        Ok(Archive { bytes, layout })
     }
 
+    // How many rows the file has.
     pub fn count(&self) -> usize
-        ensures { result ≡ self.now.count }
+        ensures rows { result ≡ self.now.layout.rows }
+        ensures opened { (rows : List (Row K T)) × Opened K.StoredKey.form T.StoredTally.form self.now rows }
     {
-        self.count
+        self.layout.rows()
     }
 }

@@ -5,4 +5,4 @@ use Rattle.stored.specs.Numerals.{four}
 use Rattle.writing.proofs.header.put_header.Given as goal
 
 abbrev pub invariant-loop-i : goal.invariant-loop-i
-invariant-loop-i l = l.buffer ≡ flat_map four (take l.i l.fields) ++ drop (4 * l.i) l.initial.buffer
+invariant-loop-i g l = l.buffer ≡ flat_map four (take l.i l.field-items) ++ drop (4 * l.i) l.initial.buffer

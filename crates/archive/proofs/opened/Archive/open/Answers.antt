@@ -1,37 +1,50 @@
 -- Without a fault the bytes are the file of some rows, and with one they are the file of none.
-use Rattle.std.proofs.Common.{◌≡◌, ℕ, Some, None, sym, refl, ap, ◌∙◌, arith}
-use Rattle.archive.specs.Checks.{fault_of, rows_told}
+use Rattle.std.proofs.Common.{◌≡◌, List, Some, None, Ok, Err, Result, MatchResult, sym, refl, ◌∙◌, arith}
+use Rattle.std.specs.Result.{IsErr}
+use Rattle.requests.specs.declared.row.Row.{Row}
+use Rattle.archive.specs.Theorems.{FileOf}
 use Rattle.archive.proofs.Laws.{KeyLaws, TallyLaws}
-use Rattle.archive.proofs.Files.{written_is_read, read_is_written, told_by}
+use Rattle.archive.proofs.Files.{written_is_read, read_is_written}
+use Rattle.archive.proofs.Opening.{rows_of}
 use Rattle.archive.proofs.Reading.{all_typed}
 use Rattle.archive.proofs.opened.Archive.open.Goals as goal
 
-pub returns-in-Some : goal.returns-in-Some
-returns-in-Some g c =
+-- what stands on the side of a refusal
+err_side : {A E : Type 0} (P : A → Type 0) (N : Type 0) (r : Result A E) → IsErr r → N → MatchResult r P (λ f. N)
+err_side P N (Ok a) h n = cc
+err_side P N (Err e) h n = n
+
+pub returns : goal.returns
+returns g c =
     let keys = g.K.StoredKey.form in
     let tallies = g.T.StoredTally.form in
     let key_laws : KeyLaws keys = let m = g.met.K.StoredKey in record { long = m.long; reread = m.reread; rewritten = m.rewritten } in
-    let tally-laws : TallyLaws tallies = let m = g.met.T.StoredTally in record { long = m.long; reread = m.reread; rewritten = m.rewritten } in
-    let fault : fault_of keys tallies c.args.bytes.now ≡ Some c.in-Some.fault = sym c.file_fault.ensures ∙ c.in-Some.is in
+    let tally_laws : TallyLaws tallies = let m = g.met.T.StoredTally in record { long = m.long; reread = m.reread; rewritten = m.rewritten } in
+    let bytes = c.args.bytes.now in
+    let known = c.in_ok-layout.ensures in
+    let r = rows_of keys tallies key_laws tally_laws bytes c.in_ok-layout.layout.rows (all_typed bytes (λ i. omega (arith, c.type_inv.bytes i))) known.0 known.1 in
     record {
-      first = fault;
-      accepted = λ rows f. let none : fault_of keys tallies c.args.bytes.now ≡ None = (written_is_read keys tallies key_laws tally-laws c.args.bytes.now rows f).0 in let both : Some c.in-Some.fault ≡ None = sym fault ∙ none in let z : ◌≡◌ {A = ℕ} 0 1 = cc in omega arith;
-      written = written_is_read keys tallies key_laws tally-laws;
-      read = read_is_written keys tallies key_laws tally-laws;
+      first = known.0;
+      accepted = (refl, (r.rows, record { file = r.file; counted = r.counted }));
+      written = written_is_read keys tallies key_laws tally_laws;
+      read = read_is_written keys tallies key_laws tally_laws;
     }
 
-pub returns-in-None : goal.returns-in-None
-returns-in-None g c =
-    let bytes = c.args.bytes.now in
+pub returns-in_err-layout : goal.returns-in_err-layout
+returns-in_err-layout g c =
     let keys = g.K.StoredKey.form in
     let tallies = g.T.StoredTally.form in
     let key_laws : KeyLaws keys = let m = g.met.K.StoredKey in record { long = m.long; reread = m.reread; rewritten = m.rewritten } in
-    let tally-laws : TallyLaws tallies = let m = g.met.T.StoredTally in record { long = m.long; reread = m.reread; rewritten = m.rewritten } in
-    let none : fault_of keys tallies bytes ≡ None = sym c.file_fault.ensures ∙ c.in-None.is in
-    let found = read_is_written keys tallies key_laws tally-laws bytes (all_typed bytes (λ i. omega (arith, c.type_inv.bytes i))) none in
+    let tally_laws : TallyLaws tallies = let m = g.met.T.StoredTally in record { long = m.long; reread = m.reread; rewritten = m.rewritten } in
+    let h = c.in_err-layout.ensures in
+    let k = c.from_residual.ensures in
     record {
-      first = none;
-      accepted = (refl, (found.0, record { file = found.1; counted = c.field.ensures ∙ ap rows_told found.1.same ∙ told_by keys tallies key_laws tally-laws found.0 }));
-      written = written_is_read keys tallies key_laws tally-laws;
-      read = read_is_written keys tallies key_laws tally-laws;
+      first = grind (arith, h, k);
+      accepted = err_side _ ((rows : List (Row g.row.K.Denot g.row.T.Denot)) → FileOf keys tallies c.args.bytes.now rows → ⊥) c.from_residual.result k.0 (λ rows f. let none = (written_is_read keys tallies key_laws tally_laws c.args.bytes.now rows f).0 in let both : Some c.in_err-layout.field-0.0 ≡ None = sym h ∙ none in cc);
+      written = written_is_read keys tallies key_laws tally_laws;
+      read = read_is_written keys tallies key_laws tally_laws;
     }
+
+pub invariant_of-result : goal.invariant_of-result
+invariant_of-result g c =
+    record { typed = all_typed c.args.bytes.now (λ i. omega (arith, c.type_inv.bytes i)); sound = c.in_ok-layout.ensures.0; counted = c.in_ok-layout.ensures.1 }

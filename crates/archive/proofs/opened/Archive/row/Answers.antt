@@ -1,49 +1,36 @@
 -- A number that is given has its row, and the parts are that row's.
-use Rattle.std.proofs.Common.{◌≡◌, ℕ, ◌+◌, ◌-◌, ◌*◌, ◌≤◌, Some, None, Ok, sym, refl, ap, ◌∙◌, ap₂, mul-le-mul, arith}
+use Rattle.std.proofs.Common.{◌-◌, ◌*◌, Ok, sym, ap, ◌∙◌, ap₂, arith}
 use Rattle.std.specs.Option.{option_map}
-use Rattle.stored.specs.Forms.{width_of}
-use Rattle.archive.specs.Format.{request_row, answer_row}
-use Rattle.archive.specs.Opened.{row_given, row_bytes, part_of}
+use Rattle.archive.specs.Format.{request_length, answer_length, answers_start}
+use Rattle.archive.specs.Opened.{row_given, row_bytes}
 use Rattle.archive.proofs.Laws.{KeyLaws, TallyLaws}
-use Rattle.archive.proofs.Handed.{handed, numbered-past}
+use Rattle.archive.proofs.Handed.{handed}
+use Rattle.archive.proofs.Opening.{rows_of, row_within}
 use Rattle.archive.proofs.opened.Archive.row.Goals as goal
 
-pub returns-then-number-count : goal.returns-then-number-count
-returns-then-number-count g c =
-    λ rows o. sym (ap (λ w. row_given (option_map (row_bytes g.K.StoredKey.form g.T.StoredTally.form) w)) (numbered-past rows c.args.number (omega (arith, o.counted))))
-
-pub returns-in_default : goal.returns-in_default
-returns-in_default g c =
-    λ rows o.
+pub part-requires : goal.part-requires
+part-requires g c =
     let keys = g.K.StoredKey.form in
     let tallies = g.T.StoredTally.form in
     let key_laws : KeyLaws keys = let m = g.met.K.StoredKey in record { long = m.long; reread = m.reread; rewritten = m.rewritten } in
-    let tally-laws : TallyLaws tallies = let m = g.met.T.StoredTally in record { long = m.long; reread = m.reread; rewritten = m.rewritten } in
-    let h = handed keys tallies key_laws tally-laws c.args.self.now rows c.args.number c.width.result (width_of tallies.size) (option_map (λ x. x.now) c.part.result) (part_of (36 + c.args.self.now.count * (4 + 2 * c.width.result)) (4 + width_of tallies.size) (c.args.number - 1) c.args.self.now.bytes.now) o (omega arith) (omega arith) c.width.ensures refl c.part.ensures refl in
-    let none : option_map (λ x. x.now) c.part.result ≡ None = ap (option_map (λ x. x.now)) c.in_default.is in
-    let both : None ≡ Some (request_row keys h.row) = sym none ∙ h.request in
-    let z : ◌≡◌ {A = ℕ} 0 1 = cc in
-    absurd (omega arith)
+    let tally_laws : TallyLaws tallies = let m = g.met.T.StoredTally in record { long = m.long; reread = m.reread; rewritten = m.rewritten } in
+    let a = c.args.self.now in
+    let r = rows_of keys tallies key_laws tally_laws a.bytes.now a.layout.rows a.typed a.sound a.counted in
+    let w = row_within (c.args.number - 1) a.layout.rows (request_length keys.size) (omega arith) in
+    let e = ap (λ n. (c.args.number - 1) * n) c.request_length.ensures in
+    omega (arith, w, e, r.long, c.request_length.ensures)
 
 pub part-requires-2 : goal.part-requires-2
 part-requires-2 g c =
-    let width : c.width.result ≤ 17 = omega (arith, c.width.ensures) in
-    let tally : c.width-2.result ≤ 17 = omega (arith, c.width-2.ensures) in
-    let room : c.args.self.now.count * (4 + 2 * c.width.result) ≤ 1024 * 38 = mul-le-mul {n₁ = c.args.self.now.count} {m₁ = 4 + 2 * c.width.result} {n₂ = 1024} {m₂ = 38} (omega arith) (omega arith) in
-    (omega arith, (omega arith, omega arith))
-
-pub returns-in_default-part : goal.returns-in_default-part
-returns-in_default-part g c =
-    λ rows o.
     let keys = g.K.StoredKey.form in
     let tallies = g.T.StoredTally.form in
     let key_laws : KeyLaws keys = let m = g.met.K.StoredKey in record { long = m.long; reread = m.reread; rewritten = m.rewritten } in
-    let tally-laws : TallyLaws tallies = let m = g.met.T.StoredTally in record { long = m.long; reread = m.reread; rewritten = m.rewritten } in
-    let h = handed keys tallies key_laws tally-laws c.args.self.now rows c.args.number c.width.result c.width-2.result (option_map (λ x. x.now) c.part.result) (option_map (λ x. x.now) c.part-2.result) o (omega arith) (omega arith) c.width.ensures c.width-2.ensures c.part.ensures c.part-2.ensures in
-    let none : option_map (λ x. x.now) c.part-2.result ≡ None = ap (option_map (λ x. x.now)) c.in_default-part.is in
-    let both : None ≡ Some (answer_row tallies h.row) = sym none ∙ h.answer in
-    let z : ◌≡◌ {A = ℕ} 0 1 = cc in
-    absurd (omega arith)
+    let tally_laws : TallyLaws tallies = let m = g.met.T.StoredTally in record { long = m.long; reread = m.reread; rewritten = m.rewritten } in
+    let a = c.args.self.now in
+    let r = rows_of keys tallies key_laws tally_laws a.bytes.now a.layout.rows a.typed a.sound a.counted in
+    let w = row_within (c.args.number - 1) a.layout.rows (answer_length tallies.size) (omega arith) in
+    let e = ap (λ n. (c.args.number - 1) * n) c.answer_length.ensures in
+    omega (arith, w, e, r.long, c.answer_length.ensures, c.answers_start.ensures)
 
 pub returns : goal.returns
 returns g c =
@@ -51,10 +38,8 @@ returns g c =
     let keys = g.K.StoredKey.form in
     let tallies = g.T.StoredTally.form in
     let key_laws : KeyLaws keys = let m = g.met.K.StoredKey in record { long = m.long; reread = m.reread; rewritten = m.rewritten } in
-    let tally-laws : TallyLaws tallies = let m = g.met.T.StoredTally in record { long = m.long; reread = m.reread; rewritten = m.rewritten } in
-    let h = handed keys tallies key_laws tally-laws c.args.self.now rows c.args.number c.width.result c.width-2.result (option_map (λ x. x.now) c.part.result) (option_map (λ x. x.now) c.part-2.result) o (omega arith) (omega arith) c.width.ensures c.width-2.ensures c.part.ensures c.part-2.ensures in
-    let asked : Some c.in-Some.request.now ≡ Some (request_row keys h.row) = sym (ap (option_map (λ x. x.now)) c.in-Some.is) ∙ h.request in
-    let answered : Some c.in-Some-part.answer.now ≡ Some (answer_row tallies h.row) = sym (ap (option_map (λ x. x.now)) c.in-Some-part.is) ∙ h.answer in
-    let p : c.in-Some.request.now ≡ request_row keys h.row = cc in
-    let q : c.in-Some-part.answer.now ≡ answer_row tallies h.row = cc in
-    ap₂ (λ x y. Ok (x, y)) p q ∙ sym (ap (λ w. row_given (option_map (row_bytes keys tallies) w)) h.given)
+    let tally_laws : TallyLaws tallies = let m = g.met.T.StoredTally in record { long = m.long; reread = m.reread; rewritten = m.rewritten } in
+    let counted = o.counted in
+    let start = c.answers_start.ensures ∙ ap (λ n. answers_start n keys.size) counted in
+    let h = handed keys tallies key_laws tally_laws c.args.self.now.bytes.now rows c.args.number c.request_length.result c.answer_length.result c.answers_start.result c.part.result.now c.part-2.result.now o.file (omega arith) (omega arith) c.request_length.ensures c.answer_length.ensures start c.part.ensures c.part-2.ensures in
+    ap₂ (λ x y. Ok (x, y)) h.request h.answer ∙ sym (ap (λ w. row_given (option_map (row_bytes keys tallies) w)) h.given)

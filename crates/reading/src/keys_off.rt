@@ -39,6 +39,7 @@ fn write_keys<K: Key, T: Copy>(
     ensures counted { result ≡ length (firsts_under live.now gate) }
     ensures after { row.new ≡ keys_over (λ f. K.Key.parts (K.Key.made f)) (firsts_under live.now gate) row.old }
 {
+    // Kept: of what is written through `iter_mut` a proof knows nothing afterwards, so keys go into the row by their place.
     let mut count = 0;
     for at in Slots::new(live, gate, work) {
         if let Some(first) = first_of(live, at) {
@@ -67,6 +68,7 @@ fn read_live<K: Key, T: Copy>(
 }
 
 // The cells of the requests that were submitted.
+// Kept: a count past the row has a promise too, so it can't be the length of a slice that callers pass.
 fn live_cells<F: Copy, T: Copy>(cells: &[Cell<F, T>], count: usize) -> &[Cell<F, T>]
     ensures { result.now ≡ take count cells.now }
 {

@@ -65,7 +65,7 @@ fn put_refused(refusal: Refusal, out: &mut [u8]) -> usize
     ensures text { Puts out.old 0 (reply_words (Refused refusal)) out.new result }
     ensures bound { result < longest_reply }
 {
-    put_named(b"refused ", refusal.number() as u32, out, 0)
+    put_named(b"refused ", u8::from(refusal) as u32, out, 0)
 }
 
 // Puts the words of an answer to the front, and tells how long they are.

@@ -1,5 +1,4 @@
 pub mod Parts
-pub mod Asked
 pub mod Named
 pub mod Boards
 pub mod Places

@@ -3,13 +3,16 @@ use Rattle.std.specs.Prelude.{ℕ, Bool, true, List, take, Some, None, Option, n
 use Rattle.keys.specs.declared.key.Key as key
 use Rattle.tallies.specs.declared.tally.Tally as tally
 use Rattle.rules.specs.Queues.{numbered}
+use Rattle.rules.specs.Moves as moves
 use Rattle.rules.specs.States as rules
 use Rattle.cells.specs.declared.cell.Cell.{Cell}
+use Rattle.cells.specs.declared.side.Side.{Side}
+use Rattle.cells.specs.declared.side.Side.TheVariants.{Left, Right}
 use Rattle.cells.specs.declared.slot.Slot.{Slot}
 use Rattle.cells.specs.declared.slot.Slot.TheVariants as slot
 use Rattle.cells.specs.declared.waits.Waits.{Waits}
 use Rattle.cells.specs.declared.waits.Waits.TheVariants.{Nowhere}
-use Rattle.cells.specs.Views.{key_named, slot_shown}
+use Rattle.cells.specs.Views.{side_slot, key_named, slot_shown}
 use Rattle.board.specs.declared.board.Board.{Board}
 use Rattle.board.specs.declared.met.Met.{Met}
 use Rattle.board.specs.declared.met.Met.TheVariants as met
@@ -24,11 +27,8 @@ module _ {K F T : Type 0} {k : key.Ghosts K F} {t : tally.Ghosts T K F} where
   waits_of b n = elim (numbered (live b) n) [ None ↦ Nowhere | Some c ↦ c.waits ]
 
   -- the slots and the tally of a place, as its cell has them
-  abbrev pub left_of : Board K T F k t → ℕ → Slot
-  left_of b p = elim (numbered (live b) p) [ None ↦ slot.Empty | Some c ↦ c.left ]
-
-  abbrev pub right_of : Board K T F k t → ℕ → Slot
-  right_of b p = elim (numbered (live b) p) [ None ↦ slot.Empty | Some c ↦ c.right ]
+  abbrev pub slot_beside : Board K T F k t → ℕ → Side → Slot
+  slot_beside b p side = elim (numbered (live b) p) [ None ↦ slot.Empty | Some c ↦ side_slot side c ]
 
 module _ {K F T : Type 0} where
   abbrev pub tally_of : (k : key.Ghosts K F) (t : tally.Ghosts T K F) → Board K T F k t → ℕ → T
@@ -53,6 +53,11 @@ abbrev pub names : ℕ → Slot → Bool
 names n slot.Empty = true
 names n (slot.Key i) = nat_le i n
 names n (slot.Place p) = true
+
+-- a side as the rules name it
+abbrev pub side_shown : Side → moves.Side
+side_shown Left = moves.on_left
+side_shown Right = moves.on_right
 
 -- what was met in a slot
 abbrev pub met_slot : {K : Type 0} → Met K → rules.Slot K

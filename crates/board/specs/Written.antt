@@ -15,6 +15,6 @@ module _ {K F T : Type 0} {k : key.Ghosts K F} {t : tally.Ghosts T K F} where
     pub gate : b'.gate ≡ b.gate
     pub desks : b'.desks ≡ b.desks
 
-  -- the cells with that of a given number written
-  abbrev pub written_at : Board K T F k t → ℕ → Cell F T → List (Cell F T)
-  written_at b n cell = elim (numbered (live b) n) [ None ↦ b.cells.now | Some c ↦ slice_set b.cells.now (n - 1) cell ]
+  -- the cell of a number that was given is written as one that a change makes of it
+  abbrev pub Changed : Board K T F k t → Board K T F k t → ℕ → (Cell F T → Cell F T → Type 0) → Type 0
+  Changed b b' n change = elim (numbered (live b) n) [ None ↦ Rewritten b b' b.cells.now | Some c ↦ (c' : Cell F T) × change c c' × Rewritten b b' (slice_set b.cells.now (n - 1) c') ]

@@ -3,16 +3,16 @@ use Rattle.std.specs.Prelude.{ℕ, zero, suc, Bool, Some, None, Option}
 use Rattle.rules.specs.declared.note.Note.{Note}
 use Rattle.rules.specs.declared.note.Note.TheVariants as note
 
--- the request of a note, and its place; 0 where there is no note
-abbrev pub note_request : Note → ℕ
-note_request note.None = 0
-note_request (note.Saw t p) = t
-note_request (note.Walk t p) = t
+-- the request of a note, and its place; none where there is no note
+abbrev pub note_request : Note → Option ℕ
+note_request note.None = None
+note_request (note.Saw t p) = Some t
+note_request (note.Walk t p) = Some t
 
-abbrev pub note_place : Note → ℕ
-note_place note.None = 0
-note_place (note.Saw t p) = p
-note_place (note.Walk t p) = p
+abbrev pub note_place : Note → Option ℕ
+note_place note.None = None
+note_place (note.Saw t p) = Some p
+note_place (note.Walk t p) = Some p
 
 -- at the gate, the key of a request that has one and no decision yet
 abbrev pub gate_key : {K : Type 0} → ℕ → Option K → Option Bool → Option K

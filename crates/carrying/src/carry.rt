@@ -1,15 +1,16 @@
 // A carry, by the station's note, the head of the queue and the decision.
 ghost use Rattle.std.specs.Prelude.{◌≡◌, List, ◌∷◌, Some, unwrap_or};
+ghost use Rattle.std.specs.Option.{option_and_then};
 ghost use Rattle.requests.specs.declared.request.Request.{Request};
 ghost use Rattle.rules.specs.Carries.{at_head, look, carried, sought, last_word};
 ghost use Rattle.rules.specs.Kinds.{kinds_of};
-ghost use Rattle.rules.specs.Queues.{numbered};
+ghost use Rattle.rules.specs.Queues.{head_of, numbered};
 ghost use Rattle.rules.specs.Sound.{Sound};
 ghost use Rattle.rules.specs.States.{Waiter};
 ghost use Rattle.rules.specs.declared.mode.Mode.TheVariants.{Between};
 ghost use Rattle.cells.specs.Rosters.{mode_at};
 ghost use Rattle.board.specs.Cells.{waits_of};
-ghost use Rattle.board.specs.Of.{board_state, row_length};
+ghost use Rattle.board.specs.Of.{board_state, Turns};
 ghost use Rattle.carrying.specs.Notes.{gate_key, note_request, note_place};
 
 use super::slots::{be_late, decide, read_slot};
@@ -58,8 +59,7 @@ fn carry_head<K: Key, T: Tally<K>>(
     request: Request<K>,
 ) -> Carried
     ensures answer { (e : Waiter) → e.number ≡ number → result ≡ (at_head (kinds_of K.Key T.Tally) (board_state K.Key T.Tally board.old) station.number place e request).0 }
-    ensures after { Sound (board_state K.Key T.Tally board.old) → (e : Waiter) (q : List Waiter) → (board_state K.Key T.Tally board.old).queue place ≡ e ∷ q → e.number ≡ number → numbered (board_state K.Key T.Tally board.old).requests number ≡ Some request → board_state K.Key T.Tally board.new ≡ (at_head (kinds_of K.Key T.Tally) (board_state K.Key T.Tally board.old) station.number place e request).1 }
-    ensures row { row_length board.new ≡ row_length board.old }
+    ensures turns { Turns K.Key T.Tally board.old board.new (λ s s'. Sound s → (e : Waiter) (q : List Waiter) → s.queue place ≡ e ∷ q → e.number ≡ number → numbered s.requests number ≡ Some request → s' ≡ (at_head (kinds_of K.Key T.Tally) s station.number place e request).1) }
 {
     match gate_key(place, &request, board.decision(number)) {
         Some(key) => {
@@ -84,8 +84,7 @@ fn look_at<K: Key, T: Tally<K>>(
     key: K,
 ) -> Carried
     ensures answer { Sound (board_state K.Key T.Tally board.old) → result ≡ (look (kinds_of K.Key T.Tally) (board_state K.Key T.Tally board.old) station.number number place key (last_word (kinds_of K.Key T.Tally) (board_state K.Key T.Tally board.old).requests key ((board_state K.Key T.Tally board.old).queue place))).0 }
-    ensures after { Sound (board_state K.Key T.Tally board.old) → (r : Request K) → numbered (board_state K.Key T.Tally board.old).requests number ≡ Some r → board_state K.Key T.Tally board.new ≡ (look (kinds_of K.Key T.Tally) (board_state K.Key T.Tally board.old) station.number number place key (last_word (kinds_of K.Key T.Tally) (board_state K.Key T.Tally board.old).requests key ((board_state K.Key T.Tally board.old).queue place))).1 }
-    ensures row { row_length board.new ≡ row_length board.old }
+    ensures turns { Turns K.Key T.Tally board.old board.new (λ s s'. Sound s → (r : Request K) → numbered s.requests number ≡ Some r → s' ≡ (look (kinds_of K.Key T.Tally) s station.number number place key (last_word (kinds_of K.Key T.Tally) s.requests key (s.queue place))).1) }
 {
     match last_word(board, key, place) {
         Some(present) => decide(board, station, number, present),
@@ -96,44 +95,58 @@ fn look_at<K: Key, T: Tally<K>>(
     }
 }
 
-// The request that a note speaks of, and its place; 0 where there is no note.
-fn noted_request(note: Note) -> u16
+// The request that a note speaks of, and its place; none where there is no note.
+fn noted_request(note: Note) -> Option<u16>
     ensures { result ≡ note_request note }
 {
     match note {
-        Note::None => 0,
-        Note::Saw { request, .. } => request,
-        Note::Walk { request, .. } => request,
+        Note::None => None,
+        Note::Saw { request, .. } | Note::Walk { request, .. } => Some(request),
     }
 }
 
-fn noted_place(note: Note) -> u16
+fn noted_place(note: Note) -> Option<u16>
     ensures { result ≡ note_place note }
 {
     match note {
-        Note::None => 0,
-        Note::Saw { place, .. } => place,
-        Note::Walk { next, .. } => next,
+        Note::None => None,
+        Note::Saw { place, .. } => Some(place),
+        Note::Walk { next, .. } => Some(next),
     }
+}
+
+// The head of the queue at the note's place, and the decision and the request that the note is about.
+fn noted_head<K: Key, T: Tally<K>>(board: &Board<'_, K, T>, note: Note) -> Option<u16>
+    ensures { Sound (board_state K.Key T.Tally board.now) → result ≡ option_and_then (λ p. head_of ((board_state K.Key T.Tally board.now).queue p)) (note_place note) }
+{
+    head(board, noted_place(note)?)
+}
+
+fn noted_decision<K: Key, T: Tally<K>>(board: &Board<'_, K, T>, note: Note) -> Option<bool>
+    ensures { result ≡ option_and_then (board_state K.Key T.Tally board.now).decision (note_request note) }
+{
+    board.decision(noted_request(note)?)
+}
+
+fn noted_asked<K: Key, T: Tally<K>>(board: &Board<'_, K, T>, note: Note) -> Option<Request<K>>
+    ensures { result ≡ option_and_then (numbered (board_state K.Key T.Tally board.now).requests) (note_request note) }
+{
+    board.request(noted_request(note)?)
 }
 
 // A carry by the note of a station; without a note, or where it no longer holds, it is late.
 pub fn carry_note<K: Key, T: Tally<K>>(board: &mut Board<K, T>, station: Station) -> Carried
     ensures answer { Sound (board_state K.Key T.Tally board.old) → result ≡ (carried (kinds_of K.Key T.Tally) (board_state K.Key T.Tally board.old) station.number ((board_state K.Key T.Tally board.old).desk station.number).note).0 }
-    ensures after { Sound (board_state K.Key T.Tally board.old) → board_state K.Key T.Tally board.new ≡ (carried (kinds_of K.Key T.Tally) (board_state K.Key T.Tally board.old) station.number ((board_state K.Key T.Tally board.old).desk station.number).note).1 }
-    ensures row { row_length board.new ≡ row_length board.old }
+    ensures turns { Turns K.Key T.Tally board.old board.new (λ s s'. Sound s → s' ≡ (carried (kinds_of K.Key T.Tally) s station.number (s.desk station.number).note).1) }
 {
     let note = board.note(station);
-    let first = head(board, noted_place(note));
-    let decision = board.decision(noted_request(note));
-    let asked = board.request(noted_request(note));
+    let first = noted_head(board, note);
+    let decision = noted_decision(board, note);
+    let asked = noted_asked(board, note);
+    // Kept: the note's three cases are the rules' own, matched together with head and decision.
     match (note, first, decision, asked) {
-        (Note::Saw { request, place }, Some(first), _, Some(asked)) => {
-            if first == request {
-                carry_head(board, station, request, place, asked)
-            } else {
-                be_late(board, station)
-            }
+        (Note::Saw { request, place }, Some(first), _, Some(asked)) if first == request => {
+            carry_head(board, station, request, place, asked)
         }
         (Note::Walk { request, next }, _, None, Some(asked)) => match sought_key(&asked) {
             Some(key) => look_at(board, station, request, next, key),

@@ -5,11 +5,11 @@ ghost use Rattle.rules.specs.Carries.{late, decided, read_slot};
 ghost use Rattle.rules.specs.Kinds.{kinds_of};
 ghost use Rattle.rules.specs.Queues.{numbered};
 ghost use Rattle.board.specs.Cells.{slot_of};
-ghost use Rattle.board.specs.Of.{board_state, row_length};
+ghost use Rattle.board.specs.Of.{board_state, Turns};
 
 use board::{Board, Met};
 use cells::Slot;
-use keys::Key;
+use keys::{Key, is_same};
 use requests::Station;
 use rules::{Carried, Note};
 use tallies::Tally;
@@ -17,8 +17,7 @@ use tallies::Tally;
 // What the note says no longer holds: it is dropped.
 pub(super) fn be_late<K: Key, T: Tally<K>>(board: &mut Board<K, T>, station: Station) -> Carried
     ensures answer { result ≡ (late (kinds_of K.Key T.Tally) (board_state K.Key T.Tally board.old) station.number).0 }
-    ensures after { board_state K.Key T.Tally board.new ≡ (late (kinds_of K.Key T.Tally) (board_state K.Key T.Tally board.old) station.number).1 }
-    ensures row { row_length board.new ≡ row_length board.old }
+    ensures turns { Turns K.Key T.Tally board.old board.new (λ s s'. s' ≡ (late (kinds_of K.Key T.Tally) s station.number).1) }
 {
     board.set_note(station, Note::None);
     Carried::Late
@@ -32,8 +31,7 @@ pub(super) fn decide<K: Key, T: Tally<K>>(
     present: bool,
 ) -> Carried
     ensures answer { result ≡ (decided (kinds_of K.Key T.Tally) (board_state K.Key T.Tally board.old) station.number number present).0 }
-    ensures after { (r : Request K) → numbered (board_state K.Key T.Tally board.old).requests number ≡ Some r → board_state K.Key T.Tally board.new ≡ (decided (kinds_of K.Key T.Tally) (board_state K.Key T.Tally board.old) station.number number present).1 }
-    ensures row { row_length board.new ≡ row_length board.old }
+    ensures turns { Turns K.Key T.Tally board.old board.new (λ s s'. (r : Request K) → numbered s.requests number ≡ Some r → s' ≡ (decided (kinds_of K.Key T.Tally) s station.number number present).1) }
 {
     board.decide(number, present);
     board.set_note(station, Note::None);
@@ -49,15 +47,11 @@ pub(super) fn read_slot<K: Key, T: Tally<K>>(
     slot: Slot,
 ) -> Carried
     ensures answer { result ≡ (read_slot (kinds_of K.Key T.Tally) (board_state K.Key T.Tally board.old) station.number number key (slot_of K.Key T.Tally board.old slot)).0 }
-    ensures after { (r : Request K) → numbered (board_state K.Key T.Tally board.old).requests number ≡ Some r → board_state K.Key T.Tally board.new ≡ (read_slot (kinds_of K.Key T.Tally) (board_state K.Key T.Tally board.old) station.number number key (slot_of K.Key T.Tally board.old slot)).1 }
-    ensures row { row_length board.new ≡ row_length board.old }
+    ensures turns { Turns K.Key T.Tally board.old board.new (λ s s'. (r : Request K) → numbered s.requests number ≡ Some r → s' ≡ (read_slot (kinds_of K.Key T.Tally) s station.number number key (slot_of K.Key T.Tally board.old slot)).1) }
 {
     match board.met(slot) {
         Met::Nothing => decide(board, station, number, false),
-        Met::Key(_, held) => {
-            let present = held.at_most(key) && key.at_most(held);
-            decide(board, station, number, present)
-        }
+        Met::Key(_, held) => decide(board, station, number, is_same(held, key)),
         Met::Place(next) => {
             board.set_note(
                 station,

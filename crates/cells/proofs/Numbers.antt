@@ -1,6 +1,7 @@
 -- Rows by number, from 1, with one entry written. Assumes nothing.
-use Rattle.std.proofs.Common.{◌≡◌, ℕ, zero, suc, ◌<◌, false, cond, eqb, List, [], ◌∷◌, ◌++◌, map, length, set, Some, sym, refl, ap, ◌∙◌, arith}
+use Rattle.std.proofs.Common.{◌≡◌, ℕ, zero, suc, ◌<◌, false, cond, eqb, List, [], ◌∷◌, ◌++◌, map, length, set, Some, None, sym, refl, ap, ◌∙◌, arith}
 use Rattle.std.specs.Option.{option_map}
+use Rattle.std.specs.Prelude.{slice_get}
 use Rattle.rules.specs.Queues.{numbered}
 
 -- numbers are compared without their first step
@@ -12,6 +13,17 @@ pub numbered_bound : {X : Type 0} (xs : List X) (i : ℕ) (x : X) → numbered x
 numbered_bound [] i x e = absurd (let z : ◌≡◌ {A = ℕ} 0 1 = cc in omega arith)
 numbered_bound (y ∷ ys) zero x e = omega arith
 numbered_bound (y ∷ ys) (suc i) x e = let ih = numbered_bound ys i x e in omega arith
+
+-- no row has a number 0
+pub numbered_zero : {X : Type 0} (xs : List X) → numbered xs 0 ≡ None
+numbered_zero [] = refl
+numbered_zero (x ∷ xs) = refl
+
+-- the entry of a number stands one before it
+pub numbered-get : {X : Type 0} (xs : List X) (i : ℕ) → numbered xs (suc i) ≡ slice_get xs i
+numbered-get [] i = refl
+numbered-get (x ∷ xs) zero = refl
+numbered-get (x ∷ xs) (suc i) = numbered-get xs i
 
 -- the entry of a number after a write
 pub numbered-set : {X : Type 0} (xs : List X) (i : ℕ) (y : X) (j : ℕ) → i < length xs → numbered (set xs i y) j ≡ cond (eqb j (suc i)) (Some y) (numbered xs j)

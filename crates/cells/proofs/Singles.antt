@@ -35,93 +35,23 @@ waits-same xs i c w e same = ap (set (map (λ x. x.waits) xs) i) (sym same) ∙ 
 
 -- a cell with its decision written
 abbrev pub cell_decided : {F T : Type 0} → Cell F T → Bool → Cell F T
-cell_decided c d = record {
-  station = c.station;
-  kind = c.kind;
-  first = c.first;
-  second = c.second;
-  decision = Some d;
-  outcome = c.outcome;
-  counted = c.counted;
-  waits = c.waits;
-  made = c.made;
-  split = c.split;
-  left = c.left;
-  right = c.right;
-  tally = c.tally;
-}
+cell_decided c d = record c { decision = Some d }
 
 -- with its outcome
 abbrev pub cell_answered : {F T : Type 0} → Cell F T → Outcome → Cell F T
-cell_answered c o = record {
-  station = c.station;
-  kind = c.kind;
-  first = c.first;
-  second = c.second;
-  decision = c.decision;
-  outcome = Some o;
-  counted = c.counted;
-  waits = c.waits;
-  made = c.made;
-  split = c.split;
-  left = c.left;
-  right = c.right;
-  tally = c.tally;
-}
+cell_answered c o = record c { outcome = Some o }
 
 -- with its tally so far
 abbrev pub cell_counted : {F T : Type 0} → Cell F T → T → Cell F T
-cell_counted c v = record {
-  station = c.station;
-  kind = c.kind;
-  first = c.first;
-  second = c.second;
-  decision = c.decision;
-  outcome = c.outcome;
-  counted = v;
-  waits = c.waits;
-  made = c.made;
-  split = c.split;
-  left = c.left;
-  right = c.right;
-  tally = c.tally;
-}
+cell_counted c v = record c { counted = v }
 
 -- with where it waits
 abbrev pub cell_waiting : {F T : Type 0} → Cell F T → Waits → Cell F T
-cell_waiting c w = record {
-  station = c.station;
-  kind = c.kind;
-  first = c.first;
-  second = c.second;
-  decision = c.decision;
-  outcome = c.outcome;
-  counted = c.counted;
-  waits = w;
-  made = c.made;
-  split = c.split;
-  left = c.left;
-  right = c.right;
-  tally = c.tally;
-}
+cell_waiting c w = record c { waits = w }
 
 -- with its place
-abbrev pub cell_placed : {F T : Type 0} → Cell F T → Bool → ℕ → Slot → Slot → T → Cell F T
-cell_placed c m s l r v = record {
-  station = c.station;
-  kind = c.kind;
-  first = c.first;
-  second = c.second;
-  decision = c.decision;
-  outcome = c.outcome;
-  counted = c.counted;
-  waits = c.waits;
-  made = m;
-  split = s;
-  left = l;
-  right = r;
-  tally = v;
-}
+abbrev pub cell_placed : {F T : Type 0} → Cell F T → Option ℕ → Slot → Slot → T → Cell F T
+cell_placed c s l r v = record c { split = s; left = l; right = r; tally = v }
 
 -- where all requests wait, by number
 abbrev pub waits_row : {F T : Type 0} → List (Cell F T) → ℕ → List Waits
@@ -129,33 +59,11 @@ waits_row cells count = map (λ x. x.waits) (take count cells)
 
 -- the state with who waits where written anew
 abbrev pub with_waits : {K T : Type 0} → State K T → List Waits → State K T
-with_waits s row = record {
-  capacity = s.capacity;
-  requests = s.requests;
-  asker = s.asker;
-  decision = s.decision;
-  answer = s.answer;
-  counted = s.counted;
-  slot = s.slot;
-  place = s.place;
-  queue = λ p. roster p 1 row;
-  desk = s.desk;
-}
+with_waits s row = record s { queue = λ p. roster p 1 row }
 
 -- the state with what a number shows as its place
 abbrev pub with_place_shown : {K T : Type 0} → State K T → ℕ → Option (Place K T) → State K T
-with_place_shown s p o = record {
-  capacity = s.capacity;
-  requests = s.requests;
-  asker = s.asker;
-  decision = s.decision;
-  answer = s.answer;
-  counted = s.counted;
-  slot = s.slot;
-  place = put s.place p o;
-  queue = s.queue;
-  desk = s.desk;
-}
+with_place_shown s p o = record s { place = put s.place p o }
 
 module _ {K F T : Type 0} (k : key.Ghosts K F) (t : tally.Ghosts T K F) where
   module _ (cells : List (Cell F T)) (count : ℕ) (gate : Slot) (desks : List Desk) (i : ℕ) (c : Cell F T)
@@ -192,20 +100,20 @@ module _ {K F T : Type 0} (k : key.Ghosts K F) (t : tally.Ghosts T K F) where
         ∙ state_path _ _ refl refl refl (kept (λ x. x.decision) None) (kept (λ x. option_map answer_of x.outcome) None) (kept (λ x. x.counted) t.none) refl (kept (place_shown k t (take count cells)) None) refl refl
 
     -- whatever the cell then shows as its place
-    pub shown-place : (m : Bool) (sp : ℕ) (l r : Slot) (v : T)
-        → state_shown k t (set cells i (cell_placed c m sp l r v)) count gate desks ≡ with_place_shown (state_shown k t cells count gate desks) (suc i) (place_shown k t (take count cells) (cell_placed c m sp l r v))
-    shown-place m sp l r v =
-        shown_rewritten k t cells count gate desks i c (cell_placed c m sp l r v) h e (record { station = refl; kind = refl; first = refl; second = refl })
+    pub shown-place : (sp : Option ℕ) (l r : Slot) (v : T)
+        → state_shown k t (set cells i (cell_placed c sp l r v)) count gate desks ≡ with_place_shown (state_shown k t cells count gate desks) (suc i) (place_shown k t (take count cells) (cell_placed c sp l r v))
+    shown-place sp l r v =
+        shown_rewritten k t cells count gate desks i c (cell_placed c sp l r v) h e (record { station = refl; kind = refl; first = refl; second = refl })
         ∙ state_path _ _ refl refl refl (kept (λ x. x.decision) None) (kept (λ x. option_map answer_of x.outcome) None) (kept (λ x. x.counted) t.none) refl refl (waits_kept) refl
 
-    pub shown-placed : (m : Bool) (sp : ℕ) (l r : Slot) (v : T) (f : Place K T) → place_shown k t (take count cells) (cell_placed c m sp l r v) ≡ Some f
-        → state_shown k t (set cells i (cell_placed c m sp l r v)) count gate desks ≡ with_place (state_shown k t cells count gate desks) (suc i) f
-    shown-placed m sp l r v f is = shown-place m sp l r v ∙ ap (with_place_shown (state_shown k t cells count gate desks) (suc i)) is
+    pub shown-placed : (sp : Option ℕ) (l r : Slot) (v : T) (f : Place K T) → place_shown k t (take count cells) (cell_placed c sp l r v) ≡ Some f
+        → state_shown k t (set cells i (cell_placed c sp l r v)) count gate desks ≡ with_place (state_shown k t cells count gate desks) (suc i) f
+    shown-placed sp l r v f is = shown-place sp l r v ∙ ap (with_place_shown (state_shown k t cells count gate desks) (suc i)) is
 
     -- no place before, and none now
-    pub shown_unplaced : (m : Bool) (sp : ℕ) (l r : Slot) (v : T) → place_shown k t (take count cells) c ≡ None → place_shown k t (take count cells) (cell_placed c m sp l r v) ≡ None
-        → state_shown k t (set cells i (cell_placed c m sp l r v)) count gate desks ≡ state_shown k t cells count gate desks
-    shown_unplaced m sp l r v was is =
-        shown-place m sp l r v
+    pub shown_unplaced : (sp : Option ℕ) (l r : Slot) (v : T) → place_shown k t (take count cells) c ≡ None → place_shown k t (take count cells) (cell_placed c sp l r v) ≡ None
+        → state_shown k t (set cells i (cell_placed c sp l r v)) count gate desks ≡ state_shown k t cells count gate desks
+    shown_unplaced sp l r v was is =
+        shown-place sp l r v
         ∙ ap (with_place_shown (state_shown k t cells count gate desks) (suc i)) (is ∙ sym was)
         ∙ state_path _ _ refl refl refl refl refl refl refl (kept (place_shown k t (take count cells)) None) refl refl

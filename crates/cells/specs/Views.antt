@@ -1,5 +1,5 @@
 -- The state of the rules that a row of cells shows, with the count of requests, the gate's slot and the desks beside it.
-use Rattle.std.specs.Prelude.{ℕ, min, false, cond, List, map, length, take, Some, None, Option}
+use Rattle.std.specs.Prelude.{ℕ, min, List, map, length, take, Some, None, Option}
 use Rattle.std.specs.Option.{option_map}
 use Rattle.keys.specs.declared.key.Key as key
 use Rattle.tallies.specs.declared.tally.Tally as tally
@@ -7,12 +7,15 @@ use Rattle.requests.specs.declared.kind.Kind.{Kind}
 use Rattle.requests.specs.declared.kind.Kind.TheVariants as kind
 use Rattle.requests.specs.declared.request.Request.{Request}
 use Rattle.requests.specs.declared.request.Request.TheVariants.{Enter, Withdraw, LookUp, Count}
+use Rattle.requests.specs.declared.station.Station.{Station}
 use Rattle.rules.specs.declared.note.Note.TheVariants as note
 use Rattle.rules.specs.Queues.{numbered}
 use Rattle.rules.specs.States.{State, Place, most_requests}
 use Rattle.rules.specs.States as rules
 use Rattle.cells.specs.declared.cell.Cell.{Cell}
 use Rattle.cells.specs.declared.desk.Desk.{Desk}
+use Rattle.cells.specs.declared.side.Side.{Side}
+use Rattle.cells.specs.declared.side.Side.TheVariants.{Left, Right}
 use Rattle.cells.specs.declared.slot.Slot.{Slot}
 use Rattle.cells.specs.declared.slot.Slot.TheVariants as slot
 use Rattle.cells.specs.declared.waits.Waits.TheVariants as waits
@@ -22,7 +25,7 @@ use Rattle.cells.specs.Rosters.{roster}
 -- a cell as it is lent
 abbrev pub blank_cell : {F T : Type 0} → F → T → Cell F T
 blank_cell fields none = record {
-  station = 0;
+  station = None;
   kind = kind.LookUp;
   first = fields;
   second = fields;
@@ -30,12 +33,21 @@ blank_cell fields none = record {
   outcome = None;
   counted = none;
   waits = waits.Nowhere;
-  made = false;
-  split = 0;
+  split = None;
   left = slot.Empty;
   right = slot.Empty;
   tally = none;
 }
+
+-- the slot of a cell's place on a side
+abbrev pub side_slot : {F T : Type 0} → Side → Cell F T → Slot
+side_slot Left c = c.left
+side_slot Right c = c.right
+
+-- the number of a station; 0 where there is none
+abbrev pub number_of : Option Station → ℕ
+number_of None = 0
+number_of (Some n) = n.number
 
 module _ {K F T : Type 0} (k : key.Ghosts K F) (t : tally.Ghosts T K F) where
   -- the request of a cell
@@ -58,20 +70,22 @@ module _ {K F T : Type 0} (k : key.Ghosts K F) (t : tally.Ghosts T K F) where
   slot_shown cells (slot.Key i) = elim (key_named cells i) [ None ↦ rules.empty | Some j ↦ rules.holds j ]
   slot_shown cells (slot.Place p) = rules.leads p
 
+  -- the key of a split, once there is one
+  abbrev pub split_named : List (Cell F T) → Option ℕ → Option K
+  split_named cells None = None
+  split_named cells (Some i) = key_named cells i
+
   -- the place of a cell, once it is made
   abbrev pub place_shown : List (Cell F T) → Cell F T → Option (Place K T)
   place_shown cells c =
-      elim (key_named cells c.split) [
-        | None ↦ None
-        | Some s ↦ cond c.made (Some (record { split = s; left = slot_shown cells c.left; right = slot_shown cells c.right; tally = c.tally })) None
-      ]
+      option_map (λ s. record { split = s; left = slot_shown cells c.left; right = slot_shown cells c.right; tally = c.tally }) (split_named cells c.split)
 
   -- the state shown: only the first cells, one for each request submitted, count
   abbrev pub state_shown : List (Cell F T) → ℕ → Slot → List Desk → State K T
   state_shown cells count gate desks = record {
     capacity = min most_requests (length cells);
     requests = map request_in (take count cells);
-    asker = λ i. elim (numbered (take count cells) i) [ None ↦ 0 | Some c ↦ c.station ];
+    asker = λ i. elim (numbered (take count cells) i) [ None ↦ 0 | Some c ↦ number_of c.station ];
     decision = λ i. elim (numbered (take count cells) i) [ None ↦ None | Some c ↦ c.decision ];
     answer = λ i. elim (numbered (take count cells) i) [ None ↦ None | Some c ↦ option_map answer_of c.outcome ];
     counted = λ i. elim (numbered (take count cells) i) [ None ↦ t.none | Some c ↦ c.counted ];

@@ -4,7 +4,7 @@ ghost use Rattle.cells.specs.Outcomes.{answer_of};
 
 use requests::Answer;
 
-#[derive(Clone, Copy)]
+#[derive(Clone, Copy, PartialEq, Eq, Debug)]
 pub enum Outcome {
     Changed,
     Unchanged,
@@ -12,11 +12,11 @@ pub enum Outcome {
     Absent,
 }
 
-impl Outcome {
-    pub fn answer<T>(self) -> Answer<T>
-        ensures { result ≡ answer_of self }
-    {
-        match self {
+impl<T> From<Outcome> for Answer<T> {
+    ghost from_gives = { λ outcome answer. answer ≡ answer_of outcome };
+
+    fn from(outcome: Outcome) -> Answer<T> {
+        match outcome {
             Outcome::Changed => Answer::Changed,
             Outcome::Unchanged => Answer::Unchanged,
             Outcome::Present => Answer::Present,

@@ -1,5 +1,5 @@
 // A slot, by numbers: its key is named by the request that entered it, its place by its own number.
-#[derive(Clone, Copy)]
+#[derive(Clone, Copy, PartialEq, Eq, Debug)]
 pub enum Slot {
     Empty,
     Key(u16),

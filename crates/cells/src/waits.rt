@@ -4,7 +4,7 @@ ghost use Rattle.cells.specs.Rosters.{mode_at, waits_without, waits_with};
 
 use rules::Mode;
 
-#[derive(Clone, Copy)]
+#[derive(Clone, Copy, PartialEq, Eq, Debug)]
 pub enum Waits {
     Nowhere,
     Between(u16),
@@ -20,23 +20,12 @@ impl Waits {
         ensures { result ≡ mode_at self place }
     {
         match self {
-            Waits::Nowhere => None,
-            Waits::Between(p) => if p == place {
-                Some(Mode::Between)
-            } else {
-                None
-            },
-            Waits::From(p) => if p == place { Some(Mode::From) } else { None },
-            Waits::Upto(p) => if p == place { Some(Mode::Upto) } else { None },
-            Waits::Halves(from, upto) => {
-                if from == place {
-                    Some(Mode::From)
-                } else if upto == place {
-                    Some(Mode::Upto)
-                } else {
-                    None
-                }
-            }
+            Waits::Between(p) if p == place => Some(Mode::Between),
+            Waits::From(p) if p == place => Some(Mode::From),
+            Waits::Upto(p) if p == place => Some(Mode::Upto),
+            Waits::Halves(from, _) if from == place => Some(Mode::From),
+            Waits::Halves(_, upto) if upto == place => Some(Mode::Upto),
+            _ => None,
         }
     }
 
@@ -45,23 +34,11 @@ impl Waits {
         ensures { result ≡ waits_without self place }
     {
         match self {
-            Waits::Nowhere => Waits::Nowhere,
-            Waits::Between(p) => if p == place { Waits::Nowhere } else { self },
-            Waits::From(p) => if p == place { Waits::Nowhere } else { self },
-            Waits::Upto(p) => if p == place { Waits::Nowhere } else { self },
-            Waits::Halves(from, upto) => {
-                if from == place {
-                    if upto == place {
-                        Waits::Nowhere
-                    } else {
-                        Waits::Upto(upto)
-                    }
-                } else if place == upto {
-                    Waits::From(from)
-                } else {
-                    self
-                }
-            }
+            Waits::Between(p) | Waits::From(p) | Waits::Upto(p) if p == place => Waits::Nowhere,
+            Waits::Halves(from, upto) if from == place && upto == place => Waits::Nowhere,
+            Waits::Halves(from, upto) if from == place => Waits::Upto(upto),
+            Waits::Halves(from, upto) if upto == place => Waits::From(from),
+            _ => self,
         }
     }
 

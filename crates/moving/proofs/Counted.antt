@@ -12,10 +12,11 @@ use Rattle.rules.specs.Queues.{numbered}
 use Rattle.rules.specs.Sound.{slot_at}
 use Rattle.rules.proofs.SoundQueues.{mode_true}
 use Rattle.rules.specs.States.{State, Place, Slot, empty, holds, leads}
+use Rattle.cells.specs.declared.side.Side.TheVariants.{Left, Right}
 use Rattle.cells.specs.declared.slot.Slot as raw
 use Rattle.cells.specs.Joins.{Joinable}
 use Rattle.board.specs.declared.board.Board.{Board}
-use Rattle.board.specs.Cells.{slot_of, left_of, right_of, tally_of}
+use Rattle.board.specs.Cells.{slot_of, slot_beside, tally_of}
 use Rattle.board.specs.Of.{board_state, if_given}
 use Rattle.board.proofs.Places.{placed}
 use Rattle.moving.specs.Movable.{Counts}
@@ -69,11 +70,11 @@ module _ {K F T : Type 0} (k : key.Ghosts K F) (t : tally.Ghosts T K F) where
     s = board_state k t b
 
     abbrev f : Place K T
-    f = record { split = v; left = slot_of k t b (left_of b p); right = slot_of k t b (right_of b p); tally = tally_of k t b p }
+    f = record { split = v; left = slot_of k t b (slot_beside b p Left); right = slot_of k t b (slot_beside b p Right); tally = tally_of k t b p }
 
     abbrev slot_raw : Side → raw.Slot
-    slot_raw on_left = left_of b p
-    slot_raw on_right = right_of b p
+    slot_raw on_left = slot_beside b p Left
+    slot_raw on_right = slot_beside b p Right
 
     raw_is : (side : Side) → slot_of k t b (slot_raw side) ≡ slot_on f side
     raw_is on_left = refl
@@ -111,7 +112,7 @@ module _ {K F T : Type 0} (k : key.Ghosts K F) (t : tally.Ghosts T K F) where
         (fork_may w s n p lo hi both (slot_of k t b x) (at_slot on_left x left) g (at_slot on_right y right ∙ sym slot ∙ is)))
         ∙ ap (λ z. shown w z n lo hi Upto (slot_of k t b1 y)) one
         ∙ ap (shown w (shown w s n lo hi From (slot_of k t b x)) n lo hi Upto) (slot ∙ ap (slot_of k t b) right)
-        ∙ ap (λ z. shown w (shown w s n lo hi From (slot_of k t b z)) n lo hi Upto (slot_of k t b (right_of b p))) left
+        ∙ ap (λ z. shown w (shown w s n lo hi From (slot_of k t b z)) n lo hi Upto (slot_of k t b (slot_beside b p Right))) left
         ∙ by_steps (show on_left From ∷ (show on_right Upto ∷ [])) steps
 
     -- the whole of one side is added, and the other shown

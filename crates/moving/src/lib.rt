@@ -4,5 +4,6 @@
 mod counting;
 mod heads;
 mod scalars;
+mod span;
 
 pub use heads::move_head;

@@ -1,10 +1,10 @@
 // What an enter and a withdraw do at a place, once they are decided to change it.
-ghost use Rattle.std.specs.Prelude.{◌≡◌, ℕ, Some};
+ghost use Rattle.std.specs.Prelude.{◌≡◌, Some};
 ghost use Rattle.requests.specs.declared.request.Request.TheVariants.{Enter, Withdraw};
 ghost use Rattle.rules.specs.Kinds.{kinds_of};
 ghost use Rattle.rules.specs.Moves.{enter_at, withdraw_at, slot_for};
 ghost use Rattle.rules.specs.Queues.{numbered};
-ghost use Rattle.board.specs.Of.{board_state, row_length};
+ghost use Rattle.board.specs.Of.{Turns};
 ghost use Rattle.moving.specs.Movable.{Passes};
 
 use board::{Board, Met};
@@ -15,8 +15,7 @@ use tallies::Tally;
 
 // An enter that left the queue of a place fills an empty slot, makes a place of a key's, or goes on to a place.
 pub(super) fn enter<K: Key, T: Tally<K>>(board: &mut Board<K, T>, number: u16, place: u16, key: K)
-    ensures after { numbered (board_state K.Key T.Tally board.old).requests number ≡ Some (Enter key) → Passes (kinds_of K.Key T.Tally) (board_state K.Key T.Tally board.old) number place key → board_state K.Key T.Tally board.new ≡ enter_at (kinds_of K.Key T.Tally) (board_state K.Key T.Tally board.old) number place key (slot_for (kinds_of K.Key T.Tally) (board_state K.Key T.Tally board.old) place key) }
-    ensures row { row_length board.new ≡ row_length board.old }
+    ensures { Turns K.Key T.Tally board.old board.new (λ s s'. numbered s.requests number ≡ Some (Enter key) → Passes (kinds_of K.Key T.Tally) s number place key → s' ≡ enter_at (kinds_of K.Key T.Tally) s number place key (slot_for (kinds_of K.Key T.Tally) s place key)) }
 {
     let slot = board.slot_for(place, key);
     match board.met(slot) {
@@ -43,8 +42,7 @@ pub(super) fn withdraw<K: Key, T: Tally<K>>(
     place: u16,
     key: K,
 )
-    ensures after { numbered (board_state K.Key T.Tally board.old).requests number ≡ Some (Withdraw key) → Passes (kinds_of K.Key T.Tally) (board_state K.Key T.Tally board.old) number place key → board_state K.Key T.Tally board.new ≡ withdraw_at (kinds_of K.Key T.Tally) (board_state K.Key T.Tally board.old) number place key (slot_for (kinds_of K.Key T.Tally) (board_state K.Key T.Tally board.old) place key) }
-    ensures row { row_length board.new ≡ row_length board.old }
+    ensures { Turns K.Key T.Tally board.old board.new (λ s s'. numbered s.requests number ≡ Some (Withdraw key) → Passes (kinds_of K.Key T.Tally) s number place key → s' ≡ withdraw_at (kinds_of K.Key T.Tally) s number place key (slot_for (kinds_of K.Key T.Tally) s place key)) }
 {
     let slot = board.slot_for(place, key);
     match board.met(slot) {

@@ -1,7 +1,15 @@
 -- One number chosen of several: it is one of them, and no other is better. Assumes nothing.
-use Rattle.std.proofs.Common.{◌≡◌, ℕ, zero, suc, ◌+◌, ◌<◌, ◌≤◌, min, max, ◌⊎◌, Some, None, Option, sym, refl, ap, ◌∙◌, inl, inr, ⊎_elim, arith}
+use Rattle.std.proofs.Common.{◌≡◌, ℕ, zero, suc, ◌<◌, ◌≤◌, min, max, ◌⊎◌, List, [], ◌∷◌, ◌++◌, map, Some, None, Option, sym, refl, ap, ◌∙◌, inl, inr, ⊎_elim, arith}
 use Rattle.std.proofs.lemmas.Bool.{cases_lt}
 use Rattle.queues.specs.Chosen.{either_by, chosen_by}
+use Rattle.std.specs.List.{reduce, filter_map, cons_option}
+use Rattle.std.specs.Option.{option_map}
+use Rattle.std.proofs.lemmas.Iterator.Adapters.{option_map_id}
+use Rattle.requests.specs.declared.station.Station.{Station}
+use Rattle.requests.specs.Stations.{station_numbers}
+use Rattle.std.proofs.lemmas.List.{append-nil}
+use Rattle.std.proofs.lemmas.List.Sums.{fold-append}
+use Rattle.std.proofs.lemmas.List.Elements.{filter_map-append}
 
 -- a choice between two numbers: it takes one of them, and that is no worse than either
 pub record Choice (choice : ℕ → ℕ → ℕ) (As-good : ℕ → ℕ → Type 0) : Type 0 where
@@ -61,9 +69,32 @@ module _ {choice : ℕ → ℕ → ℕ} {As-good : ℕ → ℕ → Type 0} (h : 
           go None v = (t, ap (λ o. either_by choice o (number (suc n))) u ∙ ap (λ o. either_by choice (Some t) o) v, good)
           go (Some b) v = (choice t b, ap (λ o. either_by choice o (number (suc n))) u ∙ ap (λ o. either_by choice (Some t) o) v, h.through (choice t b) t x (h.left t b) good)
 
--- one number more is looked at
-pub chosen_next : (choice : ℕ → ℕ → ℕ) (number : ℕ → Option ℕ) (n m : ℕ) (so_far one both next : Option ℕ) → so_far ≡ chosen_by choice number n → m ≡ n + 1 → one ≡ number m → both ≡ either_by choice so_far one → next ≡ both
-    → next ≡ chosen_by choice number (n + 1)
-chosen_next choice number n m so_far one both next is at its e then =
-    let more : n + 1 ≡ suc n = omega arith in
-    then ∙ e ∙ ap (λ o. either_by choice o one) is ∙ ap (λ o. either_by choice (chosen_by choice number n) o) (its ∙ ap number (at ∙ more)) ∙ ap (chosen_by choice number) (sym more)
+-- the numbers from 1 to n, in order
+abbrev pub upto : ℕ → List ℕ
+upto zero = []
+upto (suc n) = upto n ++ (suc n ∷ [])
+
+-- the last of several is chosen by last
+reduce_more : (choice : ℕ → ℕ → ℕ) (xs : List ℕ) (o : Option ℕ) → reduce choice (xs ++ cons_option o []) ≡ either_by choice (reduce choice xs) o
+reduce_more choice [] None = refl
+reduce_more choice [] (Some x) = refl
+reduce_more choice (y ∷ ys) None = ap (reduce choice) (append-nil (y ∷ ys))
+reduce_more choice (y ∷ ys) (Some x) = ap Some (fold-append choice y ys (x ∷ []))
+
+-- what a chain over the numbers from 1 to n chooses
+pub chosen_of : (choice : ℕ → ℕ → ℕ) (number : ℕ → Option ℕ) (n : ℕ) → reduce choice (filter_map number (upto n)) ≡ chosen_by choice number n
+chosen_of choice number zero = refl
+chosen_of choice number (suc n) =
+    ap (reduce choice) (filter_map-append number (upto n) (suc n ∷ []))
+    ∙ reduce_more choice (filter_map number (upto n)) (number (suc n))
+    ∙ ap (λ o. either_by choice o (number (suc n))) (chosen_of choice number n)
+
+filter_map-map : {X : Type 0} (f : X → ℕ) (number : ℕ → Option ℕ) (xs : List X) → filter_map (λ x. number (f x)) xs ≡ filter_map number (map f xs)
+filter_map-map f number [] = refl
+filter_map-map f number (x ∷ xs) = ap (cons_option (number (f x))) (filter_map-map f number xs)
+
+-- what a chain over the eight stations chooses
+pub chosen_of_all : (choice : ℕ → ℕ → ℕ) (number : ℕ → Option ℕ) (all : List Station) → map (λ s. s.number) all ≡ station_numbers → (r : Option ℕ)
+    → option_map (λ x. x) r ≡ reduce choice (filter_map (λ s. number s.number) all) → r ≡ chosen_by choice number 8
+chosen_of_all choice number all eight r is =
+    sym (option_map_id r) ∙ is ∙ ap (reduce choice) (filter_map-map (λ s. s.number) number all) ∙ ap (λ ns. reduce choice (filter_map number ns)) eight ∙ chosen_of choice number 8

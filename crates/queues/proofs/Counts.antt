@@ -1,8 +1,13 @@
 -- Counting the numbers that pass a test, directly and by what each belongs to. Assumes nothing.
-use Rattle.std.proofs.Common.{◌≡◌, ℕ, zero, suc, ◌+◌, ◌<◌, ◌≤◌, Bool, true, false, cond, not, ◌&&◌, eqb, leb, ◌≢◌, sym, refl, ap, ◌∙◌, ap₂, ⊎_elim, true≢false, arith}
+use Rattle.std.proofs.Common.{◌≡◌, ℕ, zero, suc, ◌+◌, ◌<◌, ◌≤◌, Bool, true, false, cond, not, ◌&&◌, eqb, leb, ◌≢◌, List, [], ◌∷◌, map, length, length-append, sym, refl, ap, ◌∙◌, ap₂, ⊎_elim, true≢false, arith}
 use Rattle.std.proofs.lemmas.Bool.{cases_eq}
 use Rattle.rules.specs.ReadOff.{all_from_one}
+use Rattle.std.specs.Prelude.{filter}
+use Rattle.requests.specs.declared.station.Station.{Station}
+use Rattle.requests.specs.Stations.{station_numbers}
+use Rattle.std.proofs.lemmas.List.Elements.{filter-append}
 use Rattle.queues.specs.Finishing.{count_of}
+use Rattle.queues.proofs.Choosing.{upto}
 
 pub count_same : (f g : ℕ → Bool) (m : ℕ) → ((t : ℕ) → 0 < t → t ≤ m → f t ≡ g t) → count_of f m ≡ count_of g m
 count_same f g zero h = refl
@@ -12,11 +17,29 @@ pub count_none : (f : ℕ → Bool) (m : ℕ) → ((t : ℕ) → f t ≡ false) 
 count_none f zero h = refl
 count_none f (suc m) h = let ih = count_none f m h in let e = h (suc m) in rw e (omega arith)
 
--- one number more is looked at
-pub count_next : (test : ℕ → Bool) (n m so_far one next : ℕ) → so_far ≡ count_of test n → m ≡ n + 1 → one ≡ cond (test m) 1 0 → next ≡ so_far + one → next ≡ count_of test (n + 1)
-count_next test n m so_far one next is at its e =
-    let more : n + 1 ≡ suc n = omega arith in
-    e ∙ ap₂ (λ a b. a + b) is (its ∙ ap (λ i. cond (test i) 1 0) (at ∙ more)) ∙ ap (count_of test) (sym more)
+-- how many of the numbers from 1 to n a chain lets through
+pub count_through : (test : ℕ → Bool) (n : ℕ) → length (filter test (upto n)) ≡ count_of test n
+count_through test zero = refl
+count_through test (suc n) =
+    ap length (filter-append test (upto n) (suc n ∷ []))
+    ∙ length-append (filter test (upto n)) (filter test (suc n ∷ []))
+    ∙ ap₂ (λ a b. a + b) (count_through test n) (go (test (suc n)))
+  where
+    go : (b : Bool) → length (cond b (suc n ∷ []) []) ≡ cond b 1 0
+    go true = refl
+    go false = refl
+
+filter-map : {X : Type 0} (f : X → ℕ) (test : ℕ → Bool) (xs : List X) → length (filter (λ x. test (f x)) xs) ≡ length (filter test (map f xs))
+filter-map f test [] = refl
+filter-map f test (x ∷ xs) = go (test (f x)) (filter-map f test xs)
+  where
+    go : (b : Bool) → length (filter (λ y. test (f y)) xs) ≡ length (filter test (map f xs)) → length (cond b (x ∷ filter (λ y. test (f y)) xs) (filter (λ y. test (f y)) xs)) ≡ length (cond b (f x ∷ filter test (map f xs)) (filter test (map f xs)))
+    go true ih = omega arith
+    go false ih = ih
+
+-- how many of the eight stations a chain lets through
+pub count_of_all : (test : ℕ → Bool) (all : List Station) → map (λ s. s.number) all ≡ station_numbers → (n : ℕ) → n ≡ length (filter (λ s. test s.number) all) → n ≡ count_of test 8
+count_of_all test all eight n is = is ∙ filter-map (λ s. s.number) test all ∙ ap (λ ns. length (filter test ns)) eight ∙ count_through test 8
 
 -- one more number passes
 pub count_more : (f g : ℕ → Bool) (m x : ℕ) → 0 < x → x ≤ m → f x ≡ false → g x ≡ true → ((t : ℕ) → (t ≡ x → ⊥) → f t ≡ g t) → count_of g m ≡ count_of f m + 1

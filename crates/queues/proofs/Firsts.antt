@@ -1,5 +1,5 @@
 -- The head of a queue is the lowest of those whom the stations hold there. Rests on Choosing and Sets.
-use Rattle.std.proofs.Common.{◌≡◌, ℕ, ◌+◌, ◌<◌, ◌≤◌, min, Bool, true, false, cond, eqb, List, [], ◌∷◌, Some, None, Option, sym, refl, ap, ◌∙◌, true≢false, arith}
+use Rattle.std.proofs.Common.{◌≡◌, ℕ, ◌<◌, ◌≤◌, min, Bool, true, false, cond, eqb, List, [], ◌∷◌, Some, None, Option, sym, refl, ap, ◌∙◌, true≢false, arith}
 use mathlib.Core.Logic.{∥∥₁_elim}
 use Rattle.std.proofs.lemmas.Bool.{eqb-true}
 use Rattle.requests.specs.Stations.{is_station}
@@ -8,15 +8,12 @@ use Rattle.rules.specs.Sound.{Rises, Sounds, Sound}
 use Rattle.rules.specs.States.{State, Waiter}
 use Rattle.rules.proofs.Bools.{or_cases}
 use Rattle.rules.proofs.SoundQueues.{in_stands, head_stands, rises-above}
-use Rattle.queues.specs.Chosen.{chosen_by}
 use Rattle.queues.specs.Held.{held_at}
+use Rattle.queues.specs.Chosen.{chosen_by}
 use Rattle.queues.proofs.Choosing.{least, chosen_among, chosen_best}
 use Rattle.queues.proofs.Sets.{numbers_set}
 
 -- there are eight stations
-pub station_there : (i : ℕ) → i < 8 → is_station (i + 1) ≡ false → ⊥
-station_there i h e = let z : ◌≡◌ {A = ℕ} 0 1 = grind arith in omega arith
-
 pub station_from : (n : ℕ) → is_station n ≡ true → 0 < n
 station_from n e = grind arith
 

@@ -1,5 +1,5 @@
 -- Each unfinished request is held by one station, and each station holds at most one. Rests on Counts.
-use Rattle.std.proofs.Common.{◌≡◌, ℕ, suc, ◌<◌, ◌≤◌, Bool, true, false, not, eqb, is_some, Some, None, Option, sym, refl, ap, ◌∙◌, true≢false, arith}
+use Rattle.std.proofs.Common.{◌≡◌, ℕ, suc, ◌<◌, ◌≤◌, Bool, true, false, not, eqb, is_some, Some, None, Option, sym, refl, ap, ◌∙◌, true≢false}
 use mathlib.Core.Logic.{∥∥₁_elim}
 use native.Mathlib.Nat.{ℕ_set}
 use Rattle.rules.specs.Queues.{stands, given, waits, waiting_place, finished}
@@ -58,10 +58,8 @@ module _ {K T : Type 0} (s : State K T) where
         (λ t e. let v = waits_somewhere t e in station_upto (s.asker t) (h.facts.held v.0 t v.1).0)
 
   -- after all stations, all unfinished requests are counted
-  pub held_unfinished : Sound s → (n r : ℕ) → n ≤ 8 → 8 ≤ n → r ≡ count_of (unfinished_held s) n → r ≡ unfinished_in s
-  held_unfinished h n r low high is =
-      let all : n ≡ 8 = omega arith in
-      is ∙ ap (count_of (unfinished_held s)) all ∙ ∥∥₁_elim h (ℕ_set _ _) held_all
+  pub held_unfinished : Sound s → count_of (unfinished_held s) 8 ≡ unfinished_in s
+  held_unfinished h = ∥∥₁_elim h (ℕ_set _ _) held_all
 
   -- and none is where all are finished
   pub none_unfinished : (r : ℕ) → r ≡ unfinished_in s → all_finished s ≡ eqb r 0

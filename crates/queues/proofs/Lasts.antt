@@ -10,9 +10,9 @@ use Rattle.rules.specs.Sound.{Rises, Sounds, Sound}
 use Rattle.rules.specs.States.{State, Waiter}
 use Rattle.rules.proofs.Bools.{or_cases, or_right}
 use Rattle.rules.proofs.SoundQueues.{rises-above}
-use Rattle.queues.specs.Chosen.{chosen_by}
 use Rattle.queues.specs.Held.{held_at}
 use Rattle.queues.specs.Words.{word_on, word_held}
+use Rattle.queues.specs.Chosen.{chosen_by}
 use Rattle.queues.proofs.Choosing.{greatest, chosen_among, chosen_best}
 use Rattle.queues.proofs.Firsts.{head_stood, held-stands, stands-held}
 use Rattle.queues.proofs.Sets.{truths_set}
@@ -42,7 +42,7 @@ module _ {K T : Type 0} (w : Kinds K T) (rs : List (Request K)) (k : K) where
 
 module _ {K T : Type 0} (w : Kinds K T) (s : State K T) (k : K) (p : ℕ) where
   -- the word of a request that may be missing
-  abbrev word_of : Option ℕ → Option Bool
+  abbrev pub word_of : Option ℕ → Option Bool
   word_of o = elim o [ None ↦ None | Some t ↦ word_on w s.requests k t ]
 
   -- a request that a station holds with a word waits there, and has one
@@ -93,8 +93,5 @@ module _ {K T : Type 0} (w : Kinds K T) (s : State K T) (k : K) (p : ℕ) where
       go (Some t) u = known t (word_on w s.requests k t) u refl
 
   -- the last word, by what all the stations hold
-  pub held_words : Sound s → (n : ℕ) (last o : Option ℕ) (r : Option Bool) → n ≤ 8 → 8 ≤ n → last ≡ chosen_by max (word_held w s k p) n → last ≡ o → r ≡ word_of o
-      → r ≡ last_word w s.requests k (s.queue p)
-  held_words h n last o r low high chosen is says =
-      let all : n ≡ 8 = omega arith in
-      says ∙ ap word_of (sym is ∙ chosen ∙ ap (chosen_by max (word_held w s k p)) all) ∙ ∥∥₁_elim h (truths_set _ _) words_by
+  pub held_words : Sound s → word_of (chosen_by max (word_held w s k p) 8) ≡ last_word w s.requests k (s.queue p)
+  held_words h = ∥∥₁_elim h (truths_set _ _) words_by

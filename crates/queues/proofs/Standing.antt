@@ -15,8 +15,7 @@ use Rattle.cells.specs.declared.waits.Waits.{Waits}
 use Rattle.cells.specs.declared.waits.Waits.TheVariants.{Nowhere}
 use Rattle.cells.specs.Rosters.{mode_at, waiter_if, roster}
 use Rattle.cells.proofs.Leaving.{roster_from, roster_in}
-use Rattle.cells.proofs.Numbers.{numbered-map}
-use Rattle.board.proofs.Parts.{numbered_zero}
+use Rattle.cells.proofs.Numbers.{numbered_zero, numbered-map}
 use Rattle.board.specs.declared.board.Board.{Board}
 use Rattle.board.specs.Cells.{live, waits_of}
 use Rattle.board.specs.Of.{board_state}

@@ -7,8 +7,7 @@ ghost use Rattle.cells.specs.Rosters.{mode_at};
 ghost use Rattle.board.specs.Cells.{waits_of};
 ghost use Rattle.board.specs.Of.{board_state};
 
-use super::chosen::lesser;
-use super::held::{STATIONS, held_at};
+use super::held::held_at;
 use board::Board;
 use keys::Key;
 use requests::Station;
@@ -19,13 +18,10 @@ use tallies::Tally;
 pub fn head<K: Key, T: Tally<K>>(board: &Board<'_, K, T>, place: u16) -> Option<u16>
     ensures { Sound (board_state K.Key T.Tally board.now) → result ≡ head_of ((board_state K.Key T.Tally board.now).queue place) }
 {
-    let mut first = None;
-    for index in 0..STATIONS {
-        if let Ok(station) = Station::new(index + 1) {
-            first = lesser(first, held_at(board, station, place));
-        }
-    }
-    first
+    Station::all()
+        .iter()
+        .filter_map(|station| held_at(board, *station, place))
+        .min()
 }
 
 // The mode in which a request waits at a place; none where it does not wait there.

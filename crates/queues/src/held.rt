@@ -8,9 +8,6 @@ use keys::Key;
 use requests::Station;
 use tallies::Tally;
 
-// How many stations there are.
-pub(super) const STATIONS: u32 = 8;
-
 // The request that a station holds, if it waits at a place.
 pub(super) fn held_at<K: Key, T: Tally<K>>(
     board: &Board<'_, K, T>,
@@ -19,11 +16,6 @@ pub(super) fn held_at<K: Key, T: Tally<K>>(
 ) -> Option<u16>
     ensures { result ≡ held_at (board_state K.Key T.Tally board.now) place station.number }
 {
-    let Some(number) = board.uncollected(station) else {
-        return None;
-    };
-    match board.waits(number).at(place) {
-        None => None,
-        Some(_) => Some(number),
-    }
+    let number = board.uncollected(station)?;
+    board.waits(number).at(place).map(|_| number)
 }

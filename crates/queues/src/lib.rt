@@ -1,7 +1,8 @@
 // The queues of a board that keeps no lists: who heads each, how, and what the last word on a key is.
+// Kept: that the state shown is sound stays a premise here, and in what moves and carries, until a register holds a board
+// and its invariant gives it; a public call asks nothing of its callers.
 #![tactic(auto)]
 
-mod chosen;
 mod finishing;
 mod heads;
 mod held;

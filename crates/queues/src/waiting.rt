@@ -23,9 +23,7 @@ fn least_place(waits: Waits) -> Option<u16>
 {
     match waits {
         Waits::Nowhere => None,
-        Waits::Between(place) => Some(place),
-        Waits::From(place) => Some(place),
-        Waits::Upto(place) => Some(place),
-        Waits::Halves(from, upto) => if from < upto { Some(from) } else { Some(upto) },
+        Waits::Between(place) | Waits::From(place) | Waits::Upto(place) => Some(place),
+        Waits::Halves(from, upto) => Some(from.min(upto)),
     }
 }

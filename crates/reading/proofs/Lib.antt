@@ -1,5 +1,4 @@
 pub mod Numbers
-pub mod Sides
 pub mod Visits
 pub mod Steps
 pub mod Rows

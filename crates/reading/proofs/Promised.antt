@@ -2,7 +2,7 @@
 use Rattle.std.proofs.Common.{◌≡◌, ℕ, ◌<◌, ◌≤◌, Bool, true, false, cond, ◌||◌, ltb, List, ◌++◌, map, length, take, drop, None, Ok, Err, Result, sym, refl, ap, ◌∙◌, ap₂, arith}
 use mathlib.Core.List.{map-map}
 use lib.ListN.{length-map}
-use Rattle.std.proofs.lemmas.Bool.{ltb-false, lt-ltb, le-ltb}
+use Rattle.std.proofs.lemmas.Bool.{lt-ltb, le-ltb}
 use Rattle.keys.specs.declared.key.Key as key
 use Rattle.keys.specs.declared.refusal.Refusal.{Refusal}
 use Rattle.keys.specs.declared.refusal.Refusal.TheVariants as no
@@ -17,17 +17,6 @@ use Rattle.reading.specs.Walks.{firsts_under}
 use Rattle.reading.specs.Promises.{Rising, keys_over, counted_within, written_within, keys_answer, keys_after}
 use Rattle.reading.proofs.Shown.{listed_same}
 
--- a count that is answered is that of all keys, and they fit
-pub count_fits : (room total n : ℕ) → Ok n ≡ counted_within room total → (ltb room total ≡ false) × (n ≡ total)
-count_fits room total n = go (ltb room total) refl
-  where
-    go : (b : Bool) → ltb room total ≡ b → ◌≡◌ {A = Result ℕ Refusal} (Ok n) (cond b (Err no.TooShort) (Ok total)) → (ltb room total ≡ false) × (n ≡ total)
-    go true e u = let z : ◌≡◌ {A = ℕ} 0 1 = cc in absurd (omega arith)
-    go false e u = (e, cc)
-
-pub count_room : (room total n : ℕ) → Ok n ≡ counted_within room total → total ≤ room
-count_room room total n e = ltb-false room total (count_fits room total n e).0
-
 -- a refusal says that they do not
 pub count_past : (room total : ℕ) (refusal : Refusal) → Err refusal ≡ counted_within room total → ltb room total ≡ true
 count_past room total refusal = go (ltb room total) refl
@@ -37,9 +26,6 @@ count_past room total refusal = go (ltb room total) refl
     go false e u = let z : ◌≡◌ {A = ℕ} 0 1 = cc in absurd (omega arith)
 
 module _ {A B : Type 0} (h : A → B) (all : List A) (row : List B) where
-  pub over_fits : (n : ℕ) → Ok n ≡ counted_within (length row) (length all) → keys_over h all row ≡ written_within h all row
-  over_fits n e = sym (ap (λ b. cond b row (keys_over h all row)) (count_fits (length row) (length all) n e).0)
-
   pub over_past : (refusal : Refusal) → Err refusal ≡ counted_within (length row) (length all) → row ≡ written_within h all row
   over_past refusal e = sym (ap (λ b. cond b row (keys_over h all row)) (count_past (length row) (length all) refusal e))
 

@@ -1,11 +1,14 @@
 -- Numbers rise on a walk, so that a walk followed down as many places as there are cells is whole. Assumes nothing.
-use Rattle.std.proofs.Common.{◌≡◌, ℕ, zero, suc, ◌+◌, ◌<◌, ◌≤◌, Bool, true, false, cond, ltb, leb, List, ◌∷◌, ◌++◌, length, Some, None, Option, refl, ap₂, arith}
+use Rattle.std.proofs.Common.{◌≡◌, ℕ, zero, suc, ◌+◌, ◌<◌, ◌≤◌, cond, ltb, leb, List, ◌∷◌, ◌++◌, length, Some, None, Option, refl, ap₂, arith}
 use Rattle.std.proofs.lemmas.Bool.{cond_both, ltb-true, leb-true}
 use Rattle.rules.specs.Queues.{numbered}
 use Rattle.cells.specs.declared.cell.Cell.{Cell}
+use Rattle.cells.specs.declared.side.Side.{Side}
+use Rattle.cells.specs.declared.side.Side.TheVariants.{Left, Right}
 use Rattle.cells.specs.declared.slot.Slot.{Slot}
 use Rattle.cells.specs.declared.slot.Slot.TheVariants.{Empty, Key, Place}
-use Rattle.reading.specs.Walks.{rising_from, is_number, slot_in, slot_below, visits}
+use Rattle.cells.specs.Views.{side_slot}
+use Rattle.reading.specs.Walks.{rising_from, is_split, slot_in, slot_below, visits}
 
 -- a place that a slot leads to is above one number and at most another
 abbrev pub Within : ℕ → ℕ → Slot → Type 0
@@ -27,20 +30,15 @@ within_from above' above most (Key i) h w = tt
 within_from above' above most (Place p) h w = (omega (arith, w.0), w.1)
 
 module _ {F T : Type 0} (live : List (Cell F T)) where
-  in_within : (p : ℕ) (right : Bool) (c : Cell F T) → Within p (length live) (slot_in live p right c)
-  in_within p right c = go c.made (is_number live c.split)
-    where
-      go : (a b : Bool) → Within p (length live) (cond a (cond b (rising_from p (length live) (cond right c.right c.left)) Empty) Empty)
-      go true true = rising_within p (length live) (cond right c.right c.left)
-      go true false = tt
-      go false b = tt
+  in_within : (p : ℕ) (side : Side) (c : Cell F T) → Within p (length live) (slot_in live p side c)
+  in_within p side c = cond_both (is_split live c.split) (rising_from p (length live) (side_slot side c)) Empty (Within p (length live)) (λ _. rising_within p (length live) (side_slot side c)) (λ _. tt)
 
-  pub below-within : (p : ℕ) (right : Bool) → Within p (length live) (slot_below live p right)
-  below-within p right = go (numbered live p)
+  pub below-within : (p : ℕ) (side : Side) → Within p (length live) (slot_below live p side)
+  below-within p side = go (numbered live p)
     where
-      go : (o : Option (Cell F T)) → Within p (length live) (elim o [ None ↦ Empty | Some c ↦ slot_in live p right c ])
+      go : (o : Option (Cell F T)) → Within p (length live) (elim o [ None ↦ Empty | Some c ↦ slot_in live p side c ])
       go None = tt
-      go (Some c) = in_within p right c
+      go (Some c) = in_within p side c
 
   -- two depths that both reach past the last number give the same walk
   pub visits-same : (d e above : ℕ) (x : Slot) → length live ≤ d + above → length live ≤ e + above → Within above (length live) x → visits live d x ≡ visits live e x
@@ -51,18 +49,18 @@ module _ {F T : Type 0} (live : List (Cell F T)) where
   visits-same (suc d) (suc e) above (Place p) h k w =
       let low = w.0 in
       ap₂ (λ a b. Place p ∷ (a ++ b))
-      (visits-same d e p (slot_below live p false) (omega arith) (omega arith) (below-within p false))
-      (visits-same d e p (slot_below live p true) (omega arith) (omega arith) (below-within p true))
+      (visits-same d e p (slot_below live p Left) (omega arith) (omega arith) (below-within p Left))
+      (visits-same d e p (slot_below live p Right) (omega arith) (omega arith) (below-within p Right))
 
   -- the walk from a place on: its left side, then its right side
   pub visits-place : (p : ℕ) → 0 < p → p ≤ length live
-      → visits live (length live) (Place p) ≡ Place p ∷ (visits live (length live) (slot_below live p false) ++ visits live (length live) (slot_below live p true))
+      → visits live (length live) (Place p) ≡ Place p ∷ (visits live (length live) (slot_below live p Left) ++ visits live (length live) (slot_below live p Right))
   visits-place p h k = go (length live) refl
     where
       go : (n : ℕ) → length live ≡ n
-          → visits live n (Place p) ≡ Place p ∷ (visits live n (slot_below live p false) ++ visits live n (slot_below live p true))
+          → visits live n (Place p) ≡ Place p ∷ (visits live n (slot_below live p Left) ++ visits live n (slot_below live p Right))
       go zero e = absurd (omega arith)
       go (suc n) e =
           ap₂ (λ a b. Place p ∷ (a ++ b))
-          (visits-same n (suc n) p (slot_below live p false) (omega arith) (omega arith) (below-within p false))
-          (visits-same n (suc n) p (slot_below live p true) (omega arith) (omega arith) (below-within p true))
+          (visits-same n (suc n) p (slot_below live p Left) (omega arith) (omega arith) (below-within p Left))
+          (visits-same n (suc n) p (slot_below live p Right) (omega arith) (omega arith) (below-within p Right))

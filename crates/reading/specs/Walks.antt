@@ -1,10 +1,14 @@
 -- The walk over a row of cells, left before right: which slots it comes by, which keys these name, and what is still to come.
-use Rattle.std.specs.Prelude.{ℕ, zero, suc, ◌<◌, ◌≤◌, Bool, cond, List, [], ◌∷◌, ◌++◌, length, is_some, Some, None, Option, nat_le, nat_lt, slice_index}
+use Rattle.std.specs.Prelude.{ℕ, zero, suc, ◌<◌, ◌≤◌, Bool, false, cond, List, [], ◌∷◌, ◌++◌, length, is_some, Some, None, Option, nat_le, nat_lt, slice_index}
+use Rattle.std.specs.List.{filter_map}
 use Rattle.std.specs.Option.{option_map}
 use Rattle.rules.specs.Queues.{numbered}
 use Rattle.cells.specs.declared.cell.Cell.{Cell}
+use Rattle.cells.specs.declared.side.Side.{Side}
+use Rattle.cells.specs.declared.side.Side.TheVariants.{Left, Right}
 use Rattle.cells.specs.declared.slot.Slot.{Slot}
 use Rattle.cells.specs.declared.slot.Slot.TheVariants.{Empty, Key, Place}
+use Rattle.cells.specs.Views.{side_slot}
 
 -- a slot below a place, where numbers rise and pass no bound; any other way down is taken for empty
 abbrev pub rising_from : ℕ → ℕ → Slot → Slot
@@ -17,13 +21,18 @@ module _ {F T : Type 0} (live : List (Cell F T)) where
   abbrev pub is_number : ℕ → Bool
   is_number i = is_some (numbered live i)
 
+  -- whether a place is made: its split is the number of a cell
+  abbrev pub is_split : Option ℕ → Bool
+  is_split None = false
+  is_split (Some i) = is_number i
+
   -- the slot of a cell on one side, once its place is made
-  abbrev pub slot_in : ℕ → Bool → Cell F T → Slot
-  slot_in p right c = cond c.made (cond (is_number c.split) (rising_from p (length live) (cond right c.right c.left)) Empty) Empty
+  abbrev pub slot_in : ℕ → Side → Cell F T → Slot
+  slot_in p side c = cond (is_split c.split) (rising_from p (length live) (side_slot side c)) Empty
 
   -- the slot of a place on one side
-  abbrev pub slot_below : ℕ → Bool → Slot
-  slot_below p right = elim (numbered live p) [ None ↦ Empty | Some c ↦ slot_in p right c ]
+  abbrev pub slot_below : ℕ → Side → Slot
+  slot_below p side = elim (numbered live p) [ None ↦ Empty | Some c ↦ slot_in p side c ]
 
   -- the fields of the key that a slot names
   abbrev pub first_named : Slot → Option F
@@ -36,17 +45,11 @@ module _ {F T : Type 0} (live : List (Cell F T)) where
   visits depth Empty = Empty ∷ []
   visits depth (Key i) = Key i ∷ []
   visits zero (Place p) = Place p ∷ []
-  visits (suc depth) (Place p) = Place p ∷ (visits depth (slot_below p Bool.false) ++ visits depth (slot_below p Bool.true))
-
-  -- what an option adds to a row
-  abbrev pub put_if : Option F → List F → List F
-  put_if None fs = fs
-  put_if (Some f) fs = f ∷ fs
+  visits (suc depth) (Place p) = Place p ∷ (visits depth (slot_below p Left) ++ visits depth (slot_below p Right))
 
   -- the fields of the keys that slots name, in their order
   abbrev pub firsts_named : List Slot → List F
-  firsts_named [] = []
-  firsts_named (x ∷ xs) = put_if (first_named x) (firsts_named xs)
+  firsts_named slots = filter_map first_named slots
 
   -- the fields of the keys under the gate
   abbrev pub firsts_under : Slot → List F
@@ -55,7 +58,7 @@ module _ {F T : Type 0} (live : List (Cell F T)) where
   -- the right sides still to come of the places in a work row, the last first
   abbrev pub right_sides : List ℕ → ℕ → List Slot
   right_sides work zero = []
-  right_sides work (suc depth) = visits (length live) (slot_below (slice_index work depth) Bool.true) ++ right_sides work depth
+  right_sides work (suc depth) = visits (length live) (slot_below (slice_index work depth) Right) ++ right_sides work depth
 
   -- the slots still to come of a walk that is at a slot with so many places in the work row
   abbrev pub to_come : List ℕ → ℕ → Slot → List Slot

@@ -1,71 +1,53 @@
 // The keys under the gate: counted first, so that a refusal leaves the row, and then written.
-ghost use Rattle.std.specs.Prelude.{◌≡◌, ◌≤◌, List, length, take, Err};
+ghost use Rattle.std.specs.Prelude.{◌≡◌, ◌≤◌, List, length, take, Err, nat_lt};
 ghost use Rattle.cells.specs.declared.desk.Desk.{Desk};
 ghost use Rattle.cells.specs.Views.{state_shown};
 ghost use Rattle.rules.specs.ReadOff.{keys_listed};
 ghost use Rattle.reading.specs.Walks.{firsts_under};
 ghost use Rattle.reading.specs.Promises.{Rising, counted_within, written_within, keys_over, keys_answer, keys_after};
 
-use super::slots::{first_of, rising};
-use super::walk::{Walk, step};
+use super::slots::first_of;
+use super::walk::Slots;
 use cells::{Cell, Slot};
 use keys::{Key, Refusal};
 use tallies::Tally;
 
-// How many keys there are, unless they outnumber the room.
-fn count_keys<F: Copy, T: Copy>(
+// Whether there are more keys than the room.
+fn outnumber<F: Copy, T: Copy>(
     live: &[Cell<F, T>],
     gate: Slot,
     room: usize,
     work: &mut [u16],
-) -> Result<usize, Refusal>
+) -> bool
     requires { length live.now ≤ length work.old }
-    ensures { result ≡ counted_within room (length (firsts_under live.now gate)) }
+    ensures { result ≡ nat_lt room (length (firsts_under live.now gate)) }
 {
-    let mut walk = Walk {
-        at: rising(gate, 0, live.len()),
-        depth: 0,
-    };
-    let mut count = 0;
-    'keys: loop {
-        if let Some(_) = first_of(live, walk.at) {
-            if count == room {
-                return Err(Refusal::TooShort);
-            }
-            count += 1;
-        }
-        match step(live, walk, work) {
-            Some(next) => walk = next,
-            None => return Ok(count),
-        }
-    }
+    Slots::new(live, gate, work)
+        .filter_map(|at| first_of(live, at))
+        .nth(room)
+        .is_some()
 }
 
-// Writes the keys to the front of a row that has room for them.
+// Writes the keys to the front of a row that has room for them; how many they are.
 fn write_keys<K: Key, T: Copy>(
     live: &[Cell<K::Fields, T>],
     gate: Slot,
     row: &mut [K::Fields],
     work: &mut [u16],
-)
+) -> usize
     requires { (length live.now ≤ length work.old) × (length (firsts_under live.now gate) ≤ length row.old) }
-    ensures { row.new ≡ keys_over (λ f. K.Key.parts (K.Key.made f)) (firsts_under live.now gate) row.old }
+    ensures counted { result ≡ length (firsts_under live.now gate) }
+    ensures after { row.new ≡ keys_over (λ f. K.Key.parts (K.Key.made f)) (firsts_under live.now gate) row.old }
 {
-    let mut walk = Walk {
-        at: rising(gate, 0, live.len()),
-        depth: 0,
-    };
+    // Kept: of what is written through `iter_mut` a proof knows nothing afterwards, so keys go into the row by their place.
     let mut count = 0;
-    'keys: loop {
-        if let Some(first) = first_of(live, walk.at) {
+    for at in Slots::new(live, gate, work) {
+        if let Some(first) = first_of(live, at) {
             row[count] = K::from_fields(first).fields();
             count += 1;
         }
-        match step(live, walk, work) {
-            Some(next) => walk = next,
-            None => return,
-        }
     }
+    count
 }
 
 // Counts the keys and then writes them, unless they outnumber the row.
@@ -79,24 +61,18 @@ fn read_live<K: Key, T: Copy>(
     ensures answer { result ≡ counted_within (length row.old) (length (firsts_under live.now gate)) }
     ensures after { row.new ≡ written_within (λ f. K.Key.parts (K.Key.made f)) (firsts_under live.now gate) row.old }
 {
-    match count_keys(live, gate, row.len(), work) {
-        Ok(counted) => {
-            write_keys::<K, T>(live, gate, row, work);
-            Ok(counted)
-        }
-        Err(refusal) => Err(refusal),
+    if outnumber(live, gate, row.len(), work) {
+        return Err(Refusal::TooShort);
     }
+    Ok(write_keys::<K, T>(live, gate, row, work))
 }
 
 // The cells of the requests that were submitted.
+// Kept: a count past the row has a promise too, so it can't be the length of a slice that callers pass.
 fn live_cells<F: Copy, T: Copy>(cells: &[Cell<F, T>], count: usize) -> &[Cell<F, T>]
     ensures { result.now ≡ take count cells.now }
 {
-    if count < cells.len() {
-        &cells[..count]
-    } else {
-        cells
-    }
+    &cells[..count.min(cells.len())]
 }
 
 // The keys under the gate, left before right, to the front of a row; how many they are.

@@ -1,4 +1,4 @@
-// Reading the keys off a row of cells, without recursion: a walk keeps its way down in a lent work row.
+// Reading the keys off a row of cells, without recursion: a walk, which keeps its way down in a lent work row.
 #![tactic(auto)]
 
 mod keys_off;

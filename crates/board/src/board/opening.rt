@@ -43,11 +43,6 @@ impl<'a, K: Key, T: Tally<K>> Board<'a, K, T> {
     pub fn capacity(&self) -> usize
         ensures { result ≡ (board_state K.Key T.Tally self.now).capacity }
     {
-        let cells = &*self.cells;
-        if cells.len() < MOST_REQUESTS {
-            cells.len()
-        } else {
-            MOST_REQUESTS
-        }
+        self.cells.len().min(MOST_REQUESTS)
     }
 }

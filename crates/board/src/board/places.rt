@@ -1,14 +1,15 @@
 // What the board knows of each place, and what its slots hold.
-ghost use Rattle.std.specs.Prelude.{◌≡◌};
+ghost use Rattle.std.specs.Prelude.{◌≡◌, if◌then◌else◌};
 ghost use Rattle.std.specs.Option.{option_map};
 ghost use Rattle.rules.specs.Kinds.{kinds_of};
-ghost use Rattle.rules.specs.Moves.{slot_for, whole};
+ghost use Rattle.rules.specs.Moves.{slot_for, whole, on_left, on_right};
 ghost use Rattle.board.specs.Of.{board_state};
-ghost use Rattle.board.specs.Cells.{left_of, right_of, tally_of, met_of, slot_of};
+ghost use Rattle.keys.specs.Orders.{below};
+ghost use Rattle.board.specs.Cells.{slot_beside, tally_of, met_of, slot_of, side_shown};
 
 use super::super::met::Met;
 use super::Board;
-use cells::Slot;
+use cells::{Side, Slot};
 use keys::{Key, is_below};
 use tallies::Tally;
 
@@ -24,63 +25,22 @@ impl<'a, K: Key, T: Tally<K>> Board<'a, K, T> {
     pub fn split(&self, number: u16) -> Option<K>
         ensures { result ≡ option_map (λ f. f.split) ((board_state K.Key T.Tally self.now).place number) }
     {
-        let cells = &*self.cells;
-        if number == 0 {
-            return None;
-        }
-        let at = (number - 1) as usize;
-        if at >= self.count {
-            return None;
-        }
-        if !cells[at].made {
-            return None;
-        }
-        self.key(cells[at].split)
+        self.key(self.find(number)?.split?)
     }
 
-    // The left slot of a place.
-    pub fn left(&self, number: u16) -> Slot
-        ensures { result ≡ left_of self.now number }
+    // The slot of a place on a side.
+    pub fn slot(&self, number: u16, side: Side) -> Slot
+        ensures { result ≡ slot_beside self.now number side }
     {
-        let cells = &*self.cells;
-        if number == 0 {
-            return Slot::Empty;
-        }
-        let at = (number - 1) as usize;
-        if at >= self.count {
-            return Slot::Empty;
-        }
-        cells[at].left
-    }
-
-    // The right slot of a place.
-    pub fn right(&self, number: u16) -> Slot
-        ensures { result ≡ right_of self.now number }
-    {
-        let cells = &*self.cells;
-        if number == 0 {
-            return Slot::Empty;
-        }
-        let at = (number - 1) as usize;
-        if at >= self.count {
-            return Slot::Empty;
-        }
-        cells[at].right
+        self.find(number)
+            .map_or(Slot::Empty, |cell| cell.slot(side))
     }
 
     // The tally of a place.
     pub fn tally(&self, number: u16) -> T
         ensures { result ≡ tally_of K.Key T.Tally self.now number }
     {
-        let cells = &*self.cells;
-        if number == 0 {
-            return T::zero();
-        }
-        let at = (number - 1) as usize;
-        if at >= self.count {
-            return T::zero();
-        }
-        cells[at].tally
+        self.find(number).map_or(T::zero(), |cell| cell.tally)
     }
 
     // What a slot holds, with its key.
@@ -89,10 +49,9 @@ impl<'a, K: Key, T: Tally<K>> Board<'a, K, T> {
     {
         match slot {
             Slot::Empty => Met::Nothing,
-            Slot::Key(name) => match self.key(name) {
-                None => Met::Nothing,
-                Some(key) => Met::Key(name, key),
-            },
+            Slot::Key(name) => self
+                .key(name)
+                .map_or(Met::Nothing, |key| Met::Key(name, key)),
             Slot::Place(place) => Met::Place(place),
         }
     }
@@ -106,11 +65,7 @@ impl<'a, K: Key, T: Tally<K>> Board<'a, K, T> {
         }
         match self.split(place) {
             None => Slot::Empty,
-            Some(split) => if is_below(key, split) {
-                self.left(place)
-            } else {
-                self.right(place)
-            },
+            Some(split) => self.slot(place, side_of(key, split)),
         }
     }
 
@@ -126,5 +81,16 @@ impl<'a, K: Key, T: Tally<K>> Board<'a, K, T> {
                 Some(_) => self.tally(place),
             },
         }
+    }
+}
+
+// The side of a place on which a key belongs: those below the split left, all others right.
+pub(super) fn side_of<K: Key>(key: K, split: K) -> Side
+    ensures { side_shown result ≡ (if below K.Key.le key split then on_left else on_right) }
+{
+    if is_below(key, split) {
+        Side::Left
+    } else {
+        Side::Right
     }
 }

@@ -1,40 +1,32 @@
 // A request more.
 ghost use Rattle.std.specs.Prelude.{◌≡◌, suc, if◌then◌else◌, nat_le, slice_set};
 ghost use Rattle.rules.specs.Queues.{given};
-ghost use Rattle.board.specs.Of.{board_state, row_length};
+ghost use Rattle.board.specs.Of.{Turns};
 ghost use Rattle.board.specs.Taken.{fresh_cell, taken};
 ghost use Rattle.board.specs.Written.{Rewritten};
 
 use super::Board;
-use cells::{Cell, Desk, Slot, Waits};
+use super::desks::desk_of;
+use cells::{Cell, Waits};
 use keys::Key;
-use requests::{Kind, Request, Station};
+use requests::{Request, Station};
 use tallies::Tally;
 
 // The cell of a request just submitted.
 fn fresh<K: Key, T: Tally<K>>(station: Station, request: Request<K>) -> Cell<K::Fields, T>
-    ensures { result ≡ fresh_cell K.Key T.Tally station.number request }
+    ensures { result ≡ fresh_cell K.Key T.Tally station request }
 {
-    let (kind, first, second) = match request {
-        Request::Enter(key) => (Kind::Enter, key.fields(), key.fields()),
-        Request::Withdraw(key) => (Kind::Withdraw, key.fields(), key.fields()),
-        Request::LookUp(key) => (Kind::LookUp, key.fields(), key.fields()),
-        Request::Count(lo, hi) => (Kind::Count, lo.fields(), hi.fields()),
+    let kind = request.kind();
+    let (first, second) = match request {
+        Request::Enter(key) | Request::Withdraw(key) | Request::LookUp(key) => (key, key),
+        Request::Count(lo, hi) => (lo, hi),
     };
     Cell {
-        station: station.number(),
+        station: Some(station),
         kind,
-        first,
-        second,
-        decision: None,
-        outcome: None,
-        counted: T::zero(),
+        second: second.fields(),
         waits: Waits::Between(0),
-        made: false,
-        split: 0,
-        left: Slot::Empty,
-        right: Slot::Empty,
-        tally: T::zero(),
+        ..Cell::blank(first.fields(), T::zero())
     }
 }
 
@@ -42,20 +34,14 @@ impl<'a, K: Key, T: Tally<K>> Board<'a, K, T> {
     // Takes a request: it gets the next number and joins the gate's queue, and its station holds it.
     // Where all numbers are given nothing is taken.
     pub fn take(&mut self, station: Station, request: Request<K>)
-        ensures after { board_state K.Key T.Tally self.new ≡ (if nat_le (board_state K.Key T.Tally self.old).capacity (given (board_state K.Key T.Tally self.old)) then board_state K.Key T.Tally self.old else taken (board_state K.Key T.Tally self.old) station.number request) }
-        ensures row { row_length self.new ≡ row_length self.old }
+        ensures { Turns K.Key T.Tally self.old self.new (λ s s'. s' ≡ (if nat_le s.capacity (given s) then s else taken s station.number request)) }
     {
         let count = self.count;
         if count >= self.capacity() {
             return;
         }
-        let desk = (station.number() - 1) as usize;
-        let note = self.desks[desk].note;
         self.lay(fresh::<K, T>(station, request));
-        self.desks[desk] = Desk {
-            note,
-            uncollected: Some((count + 1) as u16),
-        };
+        self.desks[desk_of(station)].uncollected = Some((count + 1) as u16);
         self.count = count + 1;
     }
 

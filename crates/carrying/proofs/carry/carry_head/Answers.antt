@@ -18,9 +18,11 @@ returns-in-None g c =
     λ e is. ap (λ i. gate_key c.args.place (sought c.args.request) (s.decision i)) is ∙ ap (gate_key c.args.place (sought c.args.request)) (sym c.decision.ensures) ∙ sym c.gate_key.ensures ∙ c.in-None.is in
     record {
       answer = λ e is. ap (λ (v : Carried × State g.row.K.Denot g.row.T.Denot). v.0) (head_moves (kinds_of g.K.Key g.T.Tally) s c.args.station.number c.args.place e c.args.request (key e is));
-      after = λ sound e q line is num.
-          c.set_note.ensures.after
-          ∙ ap (λ v. with_note v c.args.station.number note.None) (c.move_head.ensures.after sound e q line is (sym (c.head_mode-mode.ensures.head e q line is)) num)
-          ∙ ap (λ (v : Carried × State g.row.K.Denot g.row.T.Denot). v.1) (head_moves (kinds_of g.K.Key g.T.Tally) s c.args.station.number c.args.place e c.args.request (key e is));
-      row = c.set_note.ensures.row ∙ c.move_head.ensures.row;
+      turns = record {
+        after = λ sound e q line is num.
+            c.set_note.ensures.after
+            ∙ ap (λ v. with_note v c.args.station.number note.None) (c.move_head.ensures.after sound e q line is (sym (c.head_mode-mode.ensures.head e q line is)) num)
+            ∙ ap (λ (v : Carried × State g.row.K.Denot g.row.T.Denot). v.1) (head_moves (kinds_of g.K.Key g.T.Tally) s c.args.station.number c.args.place e c.args.request (key e is));
+        row = c.set_note.ensures.row ∙ c.move_head.ensures.row;
+      };
     }

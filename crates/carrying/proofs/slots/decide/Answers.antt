@@ -11,8 +11,10 @@ returns g c =
     let s = board_state g.K.Key g.T.Tally c.args.board.now in
     record {
       answer = refl;
-      after = λ r num.
-          c.set_note.ensures.after
-          ∙ ap (λ v. with_note v c.args.station.number note.None) (c.decide.ensures.after ∙ given_then s c.args.number r (with_decision s c.args.number c.args.present) num);
-      row = c.set_note.ensures.row ∙ c.decide.ensures.row;
+      turns = record {
+        after = λ r num.
+            c.set_note.ensures.after
+            ∙ ap (λ v. with_note v c.args.station.number note.None) (c.decide.ensures.after ∙ given_then s c.args.number r (with_decision s c.args.number c.args.present) num);
+        row = c.set_note.ensures.row ∙ c.decide.ensures.row;
+      };
     }

@@ -19,7 +19,7 @@ returns-in-Place g c =
     record {
       after = λ num may.
           c.join.ensures.after (may f is)
-          ∙ given_then s c.args.number (Count c.args.lo c.args.hi) (with_waiter s f c.args.number c.args.mode) num
-          ∙ ap (shown (kinds_of g.K.Key g.T.Tally) s c.args.number c.args.lo c.args.hi c.args.mode) (sym is);
+          ∙ given_then s c.args.number (Count c.args.span.lo c.args.span.hi) (with_waiter s f c.args.number c.args.mode) num
+          ∙ ap (shown (kinds_of g.K.Key g.T.Tally) s c.args.number c.args.span.lo c.args.span.hi c.args.mode) (sym is);
       row = c.join.ensures.row;
     }

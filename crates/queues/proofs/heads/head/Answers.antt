@@ -1,24 +1,19 @@
--- One station more is looked at; after all eight the least is the head.
-use Rattle.std.proofs.Common.{◌≡◌, min, ap, ◌∙◌, arith}
+-- The least of what the eight hold is the head.
+use Rattle.std.proofs.Common.{min, ap, ◌∙◌, rules}
+use Rattle.std.specs.Slice.Iter.{iter_rest}
+use Rattle.std.proofs.lemmas.Iterator.{YieldsList-from_slice}
+use Rattle.std.proofs.lemmas.Iterator.Consumers.{YieldsList-from_filter_map, min_from_yields_List}
+use Rattle.requests.specs.declared.station.Station.{Station}
 use Rattle.board.specs.Of.{board_state}
-use Rattle.queues.specs.Chosen.{chosen_by}
 use Rattle.queues.specs.Held.{held_at}
-use Rattle.queues.proofs.Choosing.{chosen_next}
-use Rattle.queues.proofs.Firsts.{station_there, held-heads}
+use Rattle.queues.proofs.Choosing.{chosen_of_all}
+use Rattle.queues.proofs.Firsts.{held-heads}
 use Rattle.queues.proofs.heads.head.Goals as goal
-
-pub loop-index-preserved : goal.loop-index-preserved
-loop-index-preserved g c =
-    let s = board_state g.K.Key g.T.Tally c.args.board.now in
-    elim c.match-new.branch [
-      | goal.in-Ok w ↦
-          chosen_next min (held_at s c.args.place) c.loop-index.index w.in-Ok.station.number c.loop-index.first w.held_at.result w.lesser-first.result c.match-new.first
-          c.loop-index.invariant w.in-Ok.ensures.0 w.held_at.ensures w.lesser-first.ensures w.first-is
-      | goal.in_default w ↦ absurd (station_there c.loop-index.index c.loop-index-test.true w.in_default.ensures.1)
-    ]
 
 pub returns : goal.returns
 returns g c = λ h.
     let s = board_state g.K.Key g.T.Tally c.args.board.now in
-    let all : c.loop-index.index ≡ 8 = omega arith in
-    c.loop-index.invariant ∙ ap (chosen_by min (held_at s c.args.place)) all ∙ held-heads s h c.args.place
+    chosen_of_all min (held_at s c.args.place) c.all.result c.all.ensures c.min.result
+    (min_from_yields_List c.filter_map.result c.min.result c.min.ensures.ran
+    (YieldsList-from_filter_map _ (λ (v : Station). held_at s c.args.place v.number) (YieldsList-from_slice c.all.result (ap iter_rest c.filter_map.ensures.source ∙ c.iter.ensures.rest)) c.filter_map.ensures.closure (λ x r q k. search rules)))
+    ∙ held-heads s h c.args.place

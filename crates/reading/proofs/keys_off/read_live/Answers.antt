@@ -1,23 +1,26 @@
 -- What was counted fits, and is written.
-use Rattle.std.proofs.Common.{length, ◌∙◌, arith}
+use Rattle.std.proofs.Common.{cond, length, Ok, Err, sym, ap, ap₂, ◌∙◌, arith}
+use Rattle.std.proofs.lemmas.Bool.{ltb-false}
+use Rattle.keys.specs.declared.refusal.Refusal.TheVariants.{TooShort}
 use Rattle.reading.specs.Walks.{firsts_under}
-use Rattle.reading.proofs.Promised.{count_room, over_fits, over_past}
+use Rattle.reading.specs.Promises.{keys_over}
 use Rattle.reading.proofs.keys_off.read_live.Goals as goal
 
+pub returns-then-outnumber : goal.returns-then-outnumber
+returns-then-outnumber g c =
+    let all = firsts_under c.args.live.now c.args.gate in
+    record {
+      answer = ap (λ b. cond b (Err TooShort) (Ok (length all))) c.if-outnumber.ensures;
+      after = ap (λ b. cond b c.args.row.now (keys_over (λ f. g.K.Key.parts (g.K.Key.made f)) all c.args.row.now)) c.if-outnumber.ensures;
+    }
+
 pub write_keys-requires : goal.write_keys-requires
-write_keys-requires g c = (
-  omega (arith, c.count_keys.auto.work),
-  count_room (length c.args.row.now) (length (firsts_under c.args.live.now c.args.gate)) c.in-Ok.counted c.in-Ok.ensures,
-)
+write_keys-requires g c = (omega (arith, c.outnumber.auto.work), ltb-false _ _ (sym c.if-outnumber.ensures))
 
-pub returns-in-Ok : goal.returns-in-Ok
-returns-in-Ok g c = record {
-  answer = c.in-Ok.ensures;
-  after = c.write_keys.ensures ∙ over_fits (λ f. g.K.Key.parts (g.K.Key.made f)) (firsts_under c.args.live.now c.args.gate) c.args.row.now c.in-Ok.counted c.in-Ok.ensures;
-}
-
-pub returns-in-Err : goal.returns-in-Err
-returns-in-Err g c = record {
-  answer = c.in-Err.ensures;
-  after = over_past (λ f. g.K.Key.parts (g.K.Key.made f)) (firsts_under c.args.live.now c.args.gate) c.args.row.now c.in-Err.refusal c.in-Err.ensures;
-}
+pub returns : goal.returns
+returns g c =
+    let all = firsts_under c.args.live.now c.args.gate in
+    record {
+      answer = ap₂ (λ b n. cond b (Err TooShort) (Ok n)) c.if-outnumber.ensures c.write_keys.ensures.counted;
+      after = c.write_keys.ensures.after ∙ ap (λ b. cond b c.args.row.now (keys_over (λ f. g.K.Key.parts (g.K.Key.made f)) all c.args.row.now)) c.if-outnumber.ensures;
+    }

@@ -1,29 +1,25 @@
 -- One slot more.
-use Rattle.std.proofs.Common.{◌≡◌, ◌<◌, ◌≤◌, [], length, set, sym, refl, ap, ◌∙◌, subst, arith, rules}
-use Rattle.std.proofs.lemmas.List.{append-nil}
-use Rattle.reading.specs.Walks.{Stands, visits, firsts_named, firsts_under, to_come}
-use Rattle.reading.specs.Promises.{keys_over}
-use Rattle.reading.proofs.Steps.{begins}
-use Rattle.reading.proofs.Rows.{Written, none_of, written-room, written-key, written_other, written_all}
+use Rattle.std.proofs.Common.{◌≡◌, ◌<◌, [], length, set, Some, None, sym, refl, ap, ◌∙◌, subst, arith, rules}
+use Rattle.reading.specs.Slots.{slots_left, CanGoOn}
+use Rattle.reading.specs.Walks.{first_named, firsts_named, firsts_under}
+use Rattle.reading.proofs.Rows.{Written, written-room, written-key, written_other, written_all}
 use Rattle.reading.proofs.keys_off.write_keys.Goals as goal
-use Rattle.reading.proofs.keys_off.write_keys.Goals.{in-Some, in_default}
 
-pub keys-init : goal.keys-init
-keys-init g c =
-    let live = c.args.live.now in
-    let at = c.rising.result in (
-      subst (λ x. Stands live c.args.work.now 0 x) (sym c.rising.ensures) (begins live c.args.work.now c.args.gate c.requires.0),
-      (omega arith, ap (firsts_named live) (sym (append-nil (visits live (length live) at))), refl),
+pub loop-at-init : goal.loop-at-init
+loop-at-init g c =
+    let begun = c.into_iter-at-iterator.ensures.into_iter_gives in (
+      subst CanGoOn (sym begun) c.new-at-items.ensures.begun,
+      tt,
+      (omega arith, sym (ap (firsts_named c.args.live.now) (ap slots_left begun ∙ c.new-at-items.ensures.slots)), refl),
     )
 
-room : (g : _) (c : goal.After-fields g) → c.keys.count < length c.keys.row
+room : (g : _) (c : goal.After-fields g) → c.loop-at.count < length c.loop-at.row
 room g c =
     let live = c.args.live.now in
-    let all = firsts_named live (visits live (length live) c.rising.result) in
-    let low = written-room live (λ f. g.K.Key.parts (g.K.Key.made f)) all c.args.row.now c.keys.work c.keys.walk.depth c.keys.walk.at c.keys.count c.keys.row c.in-Some.first c.keys.invariant.1 (sym c.first_of.ensures ∙ c.in-Some.is) in
-    let same : length all ≡ length (firsts_under live c.args.gate) = ap (λ x. length (firsts_named live (visits live (length live) x))) c.rising.ensures in
+    let named : first_named live c.in-Some.at ≡ Some c.in-Some-first_of.first = sym c.first_of.ensures ∙ c.in-Some-first_of.is in
+    let low = written-room live (λ f. g.K.Key.parts (g.K.Key.made f)) (firsts_under live c.args.gate) c.args.row.now (slots_left c.loop-at.at-iterator) c.in-Some.at (slots_left c.next.new.self) c.loop-at.count c.loop-at.row c.in-Some-first_of.first c.loop-at.invariant.2 c.in-Some.ensures.steps named in
     let most = c.requires.1 in
-    let long = c.keys.auto.row in
+    let long = c.loop-at.auto.row in
     omega arith
 
 pub bounds-row-count : goal.bounds-row-count
@@ -32,42 +28,35 @@ bounds-row-count g c = room g c
 pub offset_bounds-row-count : goal.offset_bounds-row-count
 offset_bounds-row-count g c =
     let within = room g c in
-    let long = c.keys.auto.row in
-    let i : c.keys.count < length c.args.row.now = omega arith in
+    let long = c.loop-at.auto.row in
+    let i : c.loop-at.count < length c.args.row.now = omega arith in
     search rules
 
 pub overflow_add-count : goal.overflow_add-count
-overflow_add-count g c = let i : c.keys.count < length c.keys.row = room g c in search rules
+overflow_add-count g c = let i : c.loop-at.count < length c.loop-at.row = room g c in search rules
 
-pub keys-preserved : goal.keys-preserved
-keys-preserved g c =
+pub loop-at-preserved-in-Some-first_of : goal.loop-at-preserved-in-Some-first_of
+loop-at-preserved-in-Some-first_of g c =
     let live = c.args.live.now in
-    let h : g.row.K-Fields.Denot → g.row.K-Fields.Denot = λ f. g.K.Key.parts (g.K.Key.made f) in
-    let all = firsts_named live (visits live (length live) c.rising.result) in
-    let todo = to_come live c.keys.work c.keys.walk.depth c.keys.walk.at in
-    let rest = to_come live c.step.new.work c.in-Some-step.next.depth c.in-Some-step.next.at in
-    let fits : length all ≤ length c.args.row.now = subst (λ x. length (firsts_named live (visits live (length live) x)) ≤ length c.args.row.now) (sym c.rising.ensures) c.requires.1 in (
-      c.in-Some-step.ensures.stands,
-      elim c.match-first_of.branch [
-        | in-Some w ↦ written-key live h all c.args.row.now todo c.keys.walk.at rest c.keys.count c.match-first_of.count c.keys.row c.match-first_of.row w.in-Some.first fits c.keys.invariant.1 c.in-Some-step.ensures.visits (sym c.first_of.ensures ∙ w.in-Some.is) w.count-is (w.row-is ∙ ap (set c.keys.row c.keys.count) (w.fields.ensures ∙ ap g.K.Key.parts w.from_fields.ensures))
-        | in_default w ↦ written_other live h all c.args.row.now todo c.keys.walk.at rest c.keys.count c.match-first_of.count c.keys.row c.match-first_of.row c.keys.invariant.1 c.in-Some-step.ensures.visits (sym c.first_of.ensures ∙ none_of c.first_of.result w.in_default.not-Some) w.count-is w.row-is
-      ],
+    let named : first_named live c.in-Some.at ≡ Some c.in-Some-first_of.first = sym c.first_of.ensures ∙ c.in-Some-first_of.is in (
+      c.in-Some.ensures.goes.keeps,
+      tt,
+      written-key live (λ f. g.K.Key.parts (g.K.Key.made f)) (firsts_under live c.args.gate) c.args.row.now (slots_left c.loop-at.at-iterator) c.in-Some.at (slots_left c.next.new.self) c.loop-at.count _ c.loop-at.row _ c.in-Some-first_of.first c.requires.1 c.loop-at.invariant.2 c.in-Some.ensures.steps named refl (ap (set c.loop-at.row c.loop-at.count) (c.fields.ensures ∙ ap g.K.Key.parts c.from_fields.ensures)),
     )
 
-pub keys-smaller : goal.keys-smaller
-keys-smaller g c = omega (arith, ap length c.in-Some-step.ensures.visits)
+pub loop-at-preserved : goal.loop-at-preserved
+loop-at-preserved g c =
+    let live = c.args.live.now in
+    let none : first_named live c.in-Some.at ≡ None = sym c.first_of.ensures ∙ c.in_default.is in (
+      c.in-Some.ensures.goes.keeps,
+      tt,
+      written_other live (λ f. g.K.Key.parts (g.K.Key.made f)) (firsts_under live c.args.gate) c.args.row.now (slots_left c.loop-at.at-iterator) c.in-Some.at (slots_left c.next.new.self) c.loop-at.count _ c.loop-at.row _ c.loop-at.invariant.2 c.in-Some.ensures.steps none refl refl,
+    )
 
-pub returns-in-None : goal.returns-in-None
-returns-in-None g c =
+pub returns : goal.returns
+returns g c =
     let live = c.args.live.now in
     let h : g.row.K-Fields.Denot → g.row.K-Fields.Denot = λ f. g.K.Key.parts (g.K.Key.made f) in
-    let all = firsts_named live (visits live (length live) c.rising.result) in
-    let todo = to_come live c.keys.work c.keys.walk.depth c.keys.walk.at in
-    let fits : length all ≤ length c.args.row.now = subst (λ x. length (firsts_named live (visits live (length live) x)) ≤ length c.args.row.now) (sym c.rising.ensures) c.requires.1 in
-    let whole : Written live h all c.args.row.now [] c.match-first_of.count c.match-first_of.row =
-    elim c.match-first_of.branch [
-      | in-Some w ↦ written-key live h all c.args.row.now todo c.keys.walk.at [] c.keys.count c.match-first_of.count c.keys.row c.match-first_of.row w.in-Some.first fits c.keys.invariant.1 c.in-None.ensures.visits (sym c.first_of.ensures ∙ w.in-Some.is) w.count-is (w.row-is ∙ ap (set c.keys.row c.keys.count) (w.fields.ensures ∙ ap g.K.Key.parts w.from_fields.ensures))
-      | in_default w ↦ written_other live h all c.args.row.now todo c.keys.walk.at [] c.keys.count c.match-first_of.count c.keys.row c.match-first_of.row c.keys.invariant.1 c.in-None.ensures.visits (sym c.first_of.ensures ∙ none_of c.first_of.result w.in_default.not-Some) w.count-is w.row-is
-    ] in
-    written_all live h all c.args.row.now c.match-first_of.count c.match-first_of.row whole
-    ∙ ap (λ x. keys_over h (firsts_named live (visits live (length live) x)) c.args.row.now) c.rising.ensures
+    let whole : Written live h (firsts_under live c.args.gate) c.args.row.now [] c.loop-at.count c.loop-at.row = subst (λ todo. Written live h (firsts_under live c.args.gate) c.args.row.now todo c.loop-at.count c.loop-at.row) c.in-None.ensures.steps.0 c.loop-at.invariant.2 in
+    let all = written_all live h (firsts_under live c.args.gate) c.args.row.now c.loop-at.count c.loop-at.row whole in
+    record { counted = all.0; after = all.1 }

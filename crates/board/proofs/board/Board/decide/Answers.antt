@@ -1,28 +1,17 @@
 -- The decision of the cell is written.
-use Rattle.std.proofs.Common.{take, sym, refl, ◌∙◌}
-use mathlib.Core.Logic.{∥∥₁_map}
+use Rattle.std.proofs.Common.{◌≡◌, ap, rules}
 use Rattle.rules.specs.Changes.{with_decision}
 use Rattle.cells.proofs.Singles.{cell_decided, shown-decided}
 use Rattle.board.specs.Of.{board_state}
-use Rattle.board.proofs.Named.{cell_named}
-use Rattle.board.proofs.Boards.{not-given, written-length, written_change}
+use Rattle.board.proofs.Boards.{still_named, changed_as, changed_given}
 use Rattle.board.proofs.board.Board.decide.Goals as goal
 
-pub returns-in_default : goal.returns-in_default
-returns-in_default g c = record { after = not-given g.K.Key g.T.Tally c.args.self.now c.args.number _ (sym c.cell.ensures ∙ c.in_default.is); row = refl }
-
-pub write-requires : goal.write-requires
-write-requires g c =
-    let b = c.args.self.now in
-    ∥∥₁_map b.named (λ old. let own = cell_named b.count (take b.count b.cells.now) c.args.number c.in-Some.cell old.1 (sym c.cell.ensures ∙ c.in-Some.is) in own)
+pub change-requires-clause-named : goal.change-requires-clause-named
+change-requires-clause-named g c = λ x y e p. let is : y ≡ cell_decided x c.args.present = search rules in still_named g.K.Key g.T.Tally c.args.self.now c.args.number x y e (ap (λ v. v.left) is) (ap (λ v. v.right) is) (ap (λ v. v.split) is)
 
 pub returns : goal.returns
 returns g c =
     let b = c.args.self.now in
-    let x = c.in-Some.cell in
-    let e = sym c.cell.ensures ∙ c.in-Some.is in
-    record {
-      after = written_change g.K.Key g.T.Tally b c.write.new.self c.args.number x (cell_decided x c.args.present) e c.write.ensures (λ n. with_decision (board_state g.K.Key g.T.Tally b) n c.args.present)
-          (λ i n h at. shown-decided g.K.Key g.T.Tally b.cells.now b.count b.gate b.desks i x h at c.args.present);
-      row = written-length g.K.Key g.T.Tally b c.write.new.self c.args.number x (cell_decided x c.args.present) e c.write.ensures;
-    }
+    let now = changed_as g.K.Key g.T.Tally b c.change.new.self c.args.number _ (λ x. cell_decided x c.args.present) c.change.ensures (λ x y p. search rules) in
+    let t = changed_given g.K.Key g.T.Tally b c.change.new.self c.args.number (λ x. cell_decided x c.args.present) now (λ n. with_decision (board_state g.K.Key g.T.Tally b) n c.args.present) (λ i x n h at. shown-decided g.K.Key g.T.Tally b.cells.now b.count b.gate b.desks i x h at c.args.present) in
+    record { after = t.after; row = t.row }

@@ -1,56 +1,41 @@
 -- The cell's place is made of its own key and the other.
-use Rattle.std.proofs.Common.{◌≡◌, ◌≤◌, true, false, sym, ap, ◌∙◌, subst, arith}
-use Rattle.cells.specs.declared.slot.Slot.TheVariants as slot
-use Rattle.cells.proofs.Singles.{cell_placed}
-use Rattle.board.specs.Written.{Rewritten, written_at}
-use Rattle.board.proofs.Boards.{written-length, live_bound, key_bound}
-use Rattle.board.proofs.Places.{place-made}
+use Rattle.std.proofs.Common.{◌≡◌, ◌≤◌, cond, sym, refl, ap, ap₂, ◌∙◌, subst, arith, rules}
+use Rattle.cells.specs.Names.{CellNamed}
+use Rattle.board.proofs.Boards.{key_bound, changed_as}
+use Rattle.board.proofs.Places.{made_cell, place-made}
 use Rattle.board.proofs.board.Board.make.Goals as goal
+use Rattle.board.proofs.board.Board.make.Goals.{then-at_most, else-at_most}
 
-pub write-requires : goal.write-requires
-write-requires g c =
+pub change-requires-clause-named : goal.change-requires-clause-named
+change-requires-clause-named g c = λ x y e p.
     let b = c.args.self.now in
-    let own : c.args.number ≤ b.count = live_bound g.K.Key g.T.Tally b c.args.number c.in-Some.cell (sym c.cell.ensures ∙ c.in-Some.is) in
-    let other : c.args.other ≤ b.count = key_bound g.K.Key g.T.Tally b c.args.other c.in-Some-key.held (sym c.key.ensures ∙ c.in-Some-key.is) in
-    ∣ (other, own, own) ∣₁
+    let own : c.args.number ≤ b.count = key_bound g.K.Key g.T.Tally b c.args.number c.in-Some.own (sym c.in-Some.ensures) in
+    let other : c.args.other ≤ b.count = key_bound g.K.Key g.T.Tally b c.args.other c.in-Some-key.held (sym c.in-Some-key.ensures) in
+    let low : c.if-at_most.low.0 ≤ b.count = elim c.if-at_most.branch [
+      | then-at_most w ↦ let is = ap (λ v. v.0) w.low-is in omega arith
+      | else-at_most w ↦ let is = ap (λ v. v.0) w.low-is in omega arith
+    ] in
+    let high : c.if-at_most.low.1 ≤ b.count = elim c.if-at_most.branch [
+      | then-at_most w ↦ let is = ap (λ v. v.1) w.low-is in omega arith
+      | else-at_most w ↦ let is = ap (λ v. v.1) w.low-is in omega arith
+    ] in
+    let is : y ≡ made_cell g.K.Key g.T.Tally c.if-at_most.low.0 c.if-at_most.low.1 c.join-tally.result x = search rules in
+    ∣ subst (CellNamed b.count) (sym is) (low, high, high) ∣₁
 
-pub write-requires-else-at_most : goal.write-requires-else-at_most
-write-requires-else-at_most g c =
+pub returns : goal.returns
+returns g c =
     let b = c.args.self.now in
-    let own : c.args.number ≤ b.count = live_bound g.K.Key g.T.Tally b c.args.number c.in-Some.cell (sym c.cell.ensures ∙ c.in-Some.is) in
-    let other : c.args.other ≤ b.count = key_bound g.K.Key g.T.Tally b c.args.other c.in-Some-key.held (sym c.key.ensures ∙ c.in-Some-key.is) in
-    ∣ (own, other, other) ∣₁
-
-pub returns-then-at_most : goal.returns-then-at_most
-returns-then-at_most g c =
-    let b = c.args.self.now in
-    let x = c.in-Some.cell in
-    let e = sym c.cell.ensures ∙ c.in-Some.is in
+    let own = c.in-Some.own in
     let held = c.in-Some-key.held in
-    let own : c.from_fields-own.result ≡ g.K.Key.made x.first = c.from_fields-own.ensures in
-    let sum : c.join-tally.result ≡ g.T.Tally.joined (g.T.Tally.weighed held) (g.T.Tally.weighed (g.K.Key.made x.first)) =
-    c.join-tally.ensures ∙ ap (λ v. g.T.Tally.joined v c.weight-2.result) c.weight.ensures ∙ ap (g.T.Tally.joined (g.T.Tally.weighed held)) (c.weight-2.ensures ∙ ap g.T.Tally.weighed own) in
-    let order : g.K.Key.le held (g.K.Key.made x.first) ≡ true = ap (g.K.Key.le held) (sym own) ∙ sym c.at_most.ensures ∙ c.if-at_most.true in
-    let new = cell_placed x true c.args.number (slot.Key c.args.other) (slot.Key c.args.number) (g.T.Tally.joined (g.T.Tally.weighed held) (g.T.Tally.weighed (g.K.Key.made x.first))) in
-    let r : Rewritten b c.write.new.self (written_at b c.args.number new) = subst (λ v. Rewritten b c.write.new.self (written_at b c.args.number (cell_placed x true c.args.number (slot.Key c.args.other) (slot.Key c.args.number) v))) sum c.write.ensures in
-    record {
-      after = place-made g.K.Key g.T.Tally b c.write.new.self c.args.number x (omega arith) e c.args.other held (sym c.key.ensures ∙ c.in-Some-key.is) true order r;
-      row = written-length g.K.Key g.T.Tally b c.write.new.self c.args.number x new e r;
-    }
-
-pub returns-else-at_most : goal.returns-else-at_most
-returns-else-at_most g c =
-    let b = c.args.self.now in
-    let x = c.in-Some.cell in
-    let e = sym c.cell.ensures ∙ c.in-Some.is in
-    let held = c.in-Some-key.held in
-    let own : c.from_fields-own.result ≡ g.K.Key.made x.first = c.from_fields-own.ensures in
-    let sum : c.join-tally.result ≡ g.T.Tally.joined (g.T.Tally.weighed held) (g.T.Tally.weighed (g.K.Key.made x.first)) =
-    c.join-tally.ensures ∙ ap (λ v. g.T.Tally.joined v c.weight-2.result) c.weight.ensures ∙ ap (g.T.Tally.joined (g.T.Tally.weighed held)) (c.weight-2.ensures ∙ ap g.T.Tally.weighed own) in
-    let order : g.K.Key.le held (g.K.Key.made x.first) ≡ false = ap (g.K.Key.le held) (sym own) ∙ sym c.at_most.ensures ∙ c.if-at_most.false in
-    let new = cell_placed x true c.args.other (slot.Key c.args.number) (slot.Key c.args.other) (g.T.Tally.joined (g.T.Tally.weighed held) (g.T.Tally.weighed (g.K.Key.made x.first))) in
-    let r : Rewritten b c.write-else-at_most.new.self (written_at b c.args.number new) = subst (λ v. Rewritten b c.write-else-at_most.new.self (written_at b c.args.number (cell_placed x true c.args.other (slot.Key c.args.number) (slot.Key c.args.other) v))) sum c.write-else-at_most.ensures in
-    record {
-      after = place-made g.K.Key g.T.Tally b c.write-else-at_most.new.self c.args.number x (omega arith) e c.args.other held (sym c.key.ensures ∙ c.in-Some-key.is) false order r;
-      row = written-length g.K.Key g.T.Tally b c.write-else-at_most.new.self c.args.number x new e r;
-    }
+    let order = g.K.Key.le held own in
+    let pair : c.if-at_most.low ≡ (cond order c.args.other c.args.number, cond order c.args.number c.args.other) = elim c.if-at_most.branch [
+      | then-at_most w ↦ w.low-is ∙ sym (ap (λ z. (cond z c.args.other c.args.number, cond z c.args.number c.args.other)) (sym c.at_most.ensures ∙ w.if-at_most.true))
+      | else-at_most w ↦ w.low-is ∙ sym (ap (λ z. (cond z c.args.other c.args.number, cond z c.args.number c.args.other)) (sym c.at_most.ensures ∙ w.if-at_most.false))
+    ] in
+    let sum : c.join-tally.result ≡ g.T.Tally.joined (g.T.Tally.weighed held) (g.T.Tally.weighed own) = c.join-tally.ensures ∙ ap₂ g.T.Tally.joined c.weight.ensures c.weight-2.ensures in
+    let now = changed_as g.K.Key g.T.Tally b c.change.new.self c.args.number _ (made_cell g.K.Key g.T.Tally (cond order c.args.other c.args.number) (cond order c.args.number c.args.other) (g.T.Tally.joined (g.T.Tally.weighed held) (g.T.Tally.weighed own))) c.change.ensures
+    (λ x y p.
+    let is : y ≡ made_cell g.K.Key g.T.Tally c.if-at_most.low.0 c.if-at_most.low.1 c.join-tally.result x = search rules in
+    is ∙ ap₂ (λ v t. made_cell g.K.Key g.T.Tally v.0 v.1 t x) pair sum) in
+    let t = place-made g.K.Key g.T.Tally b c.change.new.self c.args.number c.args.other own held (sym c.in-Some.ensures) (sym c.in-Some-key.ensures) order refl now in
+    record { after = t.after; row = t.row }

@@ -1,51 +1,26 @@
 -- The request of the cell, by its kind.
-use Rattle.std.proofs.Common.{◌≡◌, ◌-◌, get_or, take, Some, ap, ◌∙◌, arith}
-use Rattle.cells.specs.Views.{request_in}
-use Rattle.board.proofs.Asked.{enter_asked, withdraw_asked, look_up_asked, count_asked}
-use Rattle.board.proofs.Parts.{at_zero, at-past, at_here, row_none, row_some, get_any}
+use Rattle.std.proofs.Common.{◌≡◌, take, Some, sym, ap, ap₂, ◌∙◌}
+use Rattle.requests.specs.declared.request.Request.TheVariants.{Enter, Withdraw, LookUp, Count}
+use Rattle.cells.specs.Views.{asked_by, request_in}
+use Rattle.board.proofs.Parts.{row_none, row_some}
 use Rattle.board.proofs.board.Board.request.Goals as goal
+use Rattle.board.proofs.board.Board.request.Goals.{in-Enter, in-Withdraw, in-LookUp, in-Count}
 
-pub returns-then-number-eq0 : goal.returns-then-number-eq0
-returns-then-number-eq0 g c = let b = c.args.self.now in row_none (request_in g.K.Key g.T.Tally) (take b.count b.cells.now) c.args.number (at_zero (take b.count b.cells.now) c.args.number (omega arith))
-
-pub returns-then-at-self : goal.returns-then-at-self
-returns-then-at-self g c = let b = c.args.self.now in row_none (request_in g.K.Key g.T.Tally) (take b.count b.cells.now) c.args.number (at-past b.cells.now b.count c.args.number (omega arith) (omega arith) (omega arith))
-
-pub returns-in-Enter : goal.returns-in-Enter
-returns-in-Enter g c =
+pub returns-in_err-cell : goal.returns-in_err-cell
+returns-in_err-cell g c =
     let b = c.args.self.now in
-    let x = (get_or b.cells.now (c.args.number - 1) c.index-cells-at.result) in
-    let y = (get_or b.cells.now (c.args.number - 1) c.index-cells-at-2.result) in
-    let same = get_any b.cells.now (c.args.number - 1) c.index-cells-at-2.result c.index-cells-at.result (omega arith) in
-    let first : c.from_fields-first.result ≡ g.K.Key.made y.first = c.from_fields-first.ensures in
-    ap Some (enter_asked g.K.Key g.T.Tally x y same c.from_fields-first.result first c.in-Enter.is) ∙ row_some (request_in g.K.Key g.T.Tally) (take b.count b.cells.now) c.args.number x (at_here b.cells.now b.count c.args.number c.index-cells-at.result (omega arith) (omega arith) (omega arith))
+    c.from_residual.ensures ∙ row_none (request_in g.K.Key g.T.Tally) (take b.count b.cells.now) c.args.number (sym c.in_err-cell.ensures)
 
-pub returns-in-Withdraw : goal.returns-in-Withdraw
-returns-in-Withdraw g c =
+pub returns : goal.returns
+returns g c =
     let b = c.args.self.now in
-    let x = (get_or b.cells.now (c.args.number - 1) c.index-cells-at.result) in
-    let y = (get_or b.cells.now (c.args.number - 1) c.index-cells-at-2.result) in
-    let same = get_any b.cells.now (c.args.number - 1) c.index-cells-at-2.result c.index-cells-at.result (omega arith) in
-    let first : c.from_fields-first.result ≡ g.K.Key.made y.first = c.from_fields-first.ensures in
-    ap Some (withdraw_asked g.K.Key g.T.Tally x y same c.from_fields-first.result first c.in-Withdraw.is) ∙ row_some (request_in g.K.Key g.T.Tally) (take b.count b.cells.now) c.args.number x (at_here b.cells.now b.count c.args.number c.index-cells-at.result (omega arith) (omega arith) (omega arith))
-
-pub returns-in-LookUp : goal.returns-in-LookUp
-returns-in-LookUp g c =
-    let b = c.args.self.now in
-    let x = (get_or b.cells.now (c.args.number - 1) c.index-cells-at.result) in
-    let y = (get_or b.cells.now (c.args.number - 1) c.index-cells-at-2.result) in
-    let same = get_any b.cells.now (c.args.number - 1) c.index-cells-at-2.result c.index-cells-at.result (omega arith) in
-    let first : c.from_fields-first.result ≡ g.K.Key.made y.first = c.from_fields-first.ensures in
-    ap Some (look_up_asked g.K.Key g.T.Tally x y same c.from_fields-first.result first c.in-LookUp.is) ∙ row_some (request_in g.K.Key g.T.Tally) (take b.count b.cells.now) c.args.number x (at_here b.cells.now b.count c.args.number c.index-cells-at.result (omega arith) (omega arith) (omega arith))
-
-pub returns-in-Count : goal.returns-in-Count
-returns-in-Count g c =
-    let b = c.args.self.now in
-    let x = (get_or b.cells.now (c.args.number - 1) c.index-cells-at.result) in
-    let y = (get_or b.cells.now (c.args.number - 1) c.index-cells-at-2.result) in
-    let same = get_any b.cells.now (c.args.number - 1) c.index-cells-at-2.result c.index-cells-at.result (omega arith) in
-    let first : c.from_fields-first.result ≡ g.K.Key.made y.first = c.from_fields-first.ensures in
-    let z = (get_or b.cells.now (c.args.number - 1) c.index-cells-at-in-Count.result) in
-    let one = get_any b.cells.now (c.args.number - 1) c.index-cells-at-in-Count.result c.index-cells-at.result (omega arith) in
-    let second : c.from_fields.result ≡ g.K.Key.made z.second = c.from_fields.ensures in
-    ap Some (count_asked g.K.Key g.T.Tally x y same c.from_fields-first.result first z one c.from_fields.result second c.in-Count.is) ∙ row_some (request_in g.K.Key g.T.Tally) (take b.count b.cells.now) c.args.number x (at_here b.cells.now b.count c.args.number c.index-cells-at.result (omega arith) (omega arith) (omega arith))
+    let x = c.in_ok-cell.cell.now in
+    let first = c.from_fields-first.ensures in
+    let asked : c.match-cell.result ≡ request_in g.K.Key g.T.Tally x =
+    elim c.match-cell.branch [
+      | in-Enter w ↦ w.result-is ∙ ap Enter first ∙ ap (λ v. asked_by g.K.Key g.T.Tally v x.first x.second) (sym w.in-Enter.is)
+      | in-Withdraw w ↦ w.result-is ∙ ap Withdraw first ∙ ap (λ v. asked_by g.K.Key g.T.Tally v x.first x.second) (sym w.in-Withdraw.is)
+      | in-LookUp w ↦ w.result-is ∙ ap LookUp first ∙ ap (λ v. asked_by g.K.Key g.T.Tally v x.first x.second) (sym w.in-LookUp.is)
+      | in-Count w ↦ w.result-is ∙ ap₂ Count first w.from_fields.ensures ∙ ap (λ v. asked_by g.K.Key g.T.Tally v x.first x.second) (sym w.in-Count.is)
+    ] in
+    ap Some asked ∙ row_some (request_in g.K.Key g.T.Tally) (take b.count b.cells.now) c.args.number x (sym c.in_ok-cell.ensures)

@@ -1,5 +1,5 @@
 -- The desk of the station is written, its other part as it was.
-use Rattle.std.proofs.Common.{◌≡◌, ◌-◌, ◌<◌, length, get_or, set, None, sym, refl, ap, ◌∙◌, arith}
+use Rattle.std.proofs.Common.{◌-◌, ◌<◌, length, get_or, set, None, sym, refl, ap, ◌∙◌, arith}
 use Rattle.rules.specs.declared.note.Note.TheVariants as note
 use Rattle.rules.specs.Changes.{with_desk}
 use Rattle.rules.specs.States as rules
@@ -11,12 +11,12 @@ use Rattle.board.proofs.board.Board.set_note.Goals as goal
 pub returns : goal.returns
 returns g c =
     let b = c.args.self.now in
-    let n : c.number.result ≡ c.args.station.number = c.number.ensures in
+    let n = c.args.station.number in
     let known = c.args.station.known in
-    let far : c.args.station.number - 1 < length b.desks = omega (arith, b.eight) in
+    let far : n - 1 < length b.desks = omega (arith, b.eight, known) in
     record {
-      after = ap (λ v. state_shown g.K.Key g.T.Tally b.cells.now b.count b.gate (set b.desks (v - 1) (record { note = c.args.note; uncollected = (get_or b.desks (v - 1) (record { note = note.None; uncollected = None })).uncollected }))) n
-          ∙ desk-put g.K.Key g.T.Tally b.cells.now b.count b.gate b.desks c.args.station.number (record { note = c.args.note; uncollected = (get_or b.desks (c.args.station.number - 1) (record { note = note.None; uncollected = None })).uncollected }) known.0 far
-          ∙ ap (λ (d : rules.Desk). with_desk (board_state g.K.Key g.T.Tally b) c.args.station.number (record { note = c.args.note; uncollected = d.uncollected })) (sym (desk-here b.desks c.args.station.number (record { note = note.None; uncollected = None }) known.0 far));
+      after = ap (λ v. state_shown g.K.Key g.T.Tally b.cells.now b.count b.gate (set b.desks v (record { note = c.args.note; uncollected = (get_or b.desks v (record { note = note.None; uncollected = None })).uncollected }))) c.desk_of-at.ensures
+          ∙ desk-put g.K.Key g.T.Tally b.cells.now b.count b.gate b.desks n (record { note = c.args.note; uncollected = (get_or b.desks (n - 1) (record { note = note.None; uncollected = None })).uncollected }) known.0 far
+          ∙ ap (λ (d : rules.Desk). with_desk (board_state g.K.Key g.T.Tally b) n (record { note = c.args.note; uncollected = d.uncollected })) (sym (desk-here b.desks n (record { note = note.None; uncollected = None }) known.0 far));
       row = refl;
     }

@@ -1,5 +1,5 @@
 -- What the desk of the station has.
-use Rattle.std.proofs.Common.{◌≡◌, ◌-◌, get_or, None, sym, ap, ◌∙◌, arith}
+use Rattle.std.proofs.Common.{get_or, None, sym, ap, ◌∙◌, arith}
 use Rattle.rules.specs.declared.note.Note.TheVariants as note
 use Rattle.rules.specs.States as rules
 use Rattle.board.proofs.Desks.{desk-here}
@@ -8,7 +8,5 @@ use Rattle.board.proofs.board.Board.uncollected.Goals as goal
 pub returns : goal.returns
 returns g c =
     let b = c.args.self.now in
-    let n : c.number.result ≡ c.args.station.number = c.number.ensures in
-    let known = c.args.station.known in
-    ap (λ v. (get_or b.desks (v - 1) (record { note = note.None; uncollected = None })).uncollected) n
-    ∙ ap (λ (d : rules.Desk). d.uncollected) (sym (desk-here b.desks c.args.station.number (record { note = note.None; uncollected = None }) known.0 (omega (arith, b.eight))))
+    ap (λ v. (get_or b.desks v (record { note = note.None; uncollected = None })).uncollected) c.desk_of.ensures
+    ∙ ap (λ (d : rules.Desk). d.uncollected) (sym (desk-here b.desks c.args.station.number (record { note = note.None; uncollected = None }) c.args.station.known.0 (omega (arith, b.eight, c.args.station.known))))

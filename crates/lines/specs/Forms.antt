@@ -25,6 +25,13 @@ abbrev pub at_end : {X : Type 0} → List (List ℕ) → X → Option X
 at_end [] x = Some x
 at_end (w ∷ ws) x = None
 
+-- the route that the first three words are
+abbrev pub next_route : List (List ℕ) → Option RouteWords
+next_route [] = None
+next_route (a ∷ []) = None
+next_route (a ∷ b ∷ []) = None
+next_route (a ∷ b ∷ c ∷ row) = route_words a b c
+
 -- one number and nothing more
 abbrev pub last_number : List (List ℕ) → Option ℕ
 last_number [] = None

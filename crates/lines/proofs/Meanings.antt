@@ -40,7 +40,7 @@ reads-line line = go (leb (length line) 64) (row_form (pieces 32 line)) refl ref
     go : (b : Bool) (o : Option Form) → leb (length line) 64 ≡ b → row_form (pieces 32 line) ≡ o → Reads line (line_call line)
     go false o p q = rw p (inr (refl, λ f w. let s = written-short line f w in grind arith))
     go true None p q =
-        rw (p, q) (inr (refl, λ f w. let e = written-form line f w in let z : ◌≡◌ {A = ℕ} 0 1 = cc in omega arith))
+        rw (p, q) (inr (refl, λ f w. let e = written-form line f w in absurd cc))
     go true (Some f) p q = rw (p, q) (reads-checked line f (form-written line f q) (form_checked f) (form-says f))
 
 -- what an answer means that is known to be what the line is

@@ -1,5 +1,5 @@
 -- A row of words taken one by one from the front, and what it then is. Assumes nothing.
-use Rattle.std.proofs.Common.{◌≡◌, ℕ, List, [], ◌∷◌, Some, Option, sym, ap, ◌∙◌, arith}
+use Rattle.std.proofs.Common.{◌≡◌, ℕ, List, [], ◌∷◌, Some, Option, sym, ap, ◌∙◌}
 use Rattle.octets.specs.Cuts.{first_of, others_of}
 use Rattle.words.specs.Figures.{number_in}
 use Rattle.lines.specs.declared.vocabulary.Verb.{Verb}
@@ -7,7 +7,7 @@ use Rattle.lines.specs.Forms.{begun_in, row_form}
 use Rattle.lines.specs.Vocabulary.{verb_in}
 
 first_cons : (row : List (List ℕ)) (a : List ℕ) → Some a ≡ first_of row → row ≡ a ∷ others_of row
-first_cons [] a e = let z : ◌≡◌ {A = ℕ} 0 1 = cc in absurd (omega arith)
+first_cons [] a e = absurd cc
 first_cons (b ∷ row) a e = let same : b ≡ a = cc in ap (λ w. w ∷ row) same
 
 -- a word is taken, and these are left

@@ -1,3 +1,1 @@
-pub mod Pasted
 pub mod Lengths
-pub mod Fronts

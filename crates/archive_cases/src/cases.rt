@@ -19,7 +19,7 @@ fn told<K: StoredKey, T: StoredTally<K>>(
             println!(rt; "{name}: accepted, rows {count}")
         }
         Err(fault) => {
-            let number = fault.refusal.number();
+            let number = u8::from(fault.refusal);
             let layer = fault.layer.word();
             let row = fault.row;
             let offset = fault.offset;
@@ -159,7 +159,7 @@ pub fn cases<K: StoredKey + Drop, T: StoredTally<K> + Drop>(
             file::<K, T>(rt, &mut buffer, length)
         }
         Err(refusal) => {
-            let number = refusal.number();
+            let number = u8::from(refusal);
             println!(rt; "{name}: writing is refused {number}")?;
             told::<K, T>(rt, "opened", &buffer)
         }

@@ -10,3 +10,4 @@ pub mod RoutesLemmas
 pub mod Texts
 pub mod SectionsLemmas
 pub mod NamesLemmas
+pub mod KeyTexts

@@ -4,14 +4,14 @@ ghost use Rattle.std.proofs.Common.{rules};
 
 use super::key::Key;
 
-#[derive(Clone, Copy)]
+#[derive(Clone, Copy, PartialEq, Eq, Debug)]
 pub struct Area<K> {
     pub number: u16,
     pub key: K,
 }
 
 // The plain fields of an area key: the number, and the fields of the key below.
-#[derive(Clone, Copy)]
+#[derive(Clone, Copy, PartialEq, Eq, Debug)]
 pub struct AreaFields<F> {
     pub number: u16,
     pub key: F,
@@ -37,10 +37,7 @@ impl<K: Key> Key for Area<K> {
     ghost remade = { Prim.search rules };
 
     fn at_most(self, other: Area<K>) -> bool {
-        if self.number != other.number {
-            return self.number < other.number;
-        }
-        self.key.at_most(other.key)
+        self.number < other.number || self.number == other.number && self.key.at_most(other.key)
     }
 
     fn fields(self) -> AreaFields<K::Fields> {

@@ -8,6 +8,7 @@ mod order;
 mod refusal;
 mod route;
 mod section;
+mod texts;
 
 pub use area::{Area, AreaFields};
 pub use class::Class;

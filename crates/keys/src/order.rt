@@ -1,5 +1,5 @@
 // Questions about two keys of any kind that follow from the one that the kind answers.
-ghost use Rattle.std.specs.Prelude.{◌≡◌, true};
+ghost use Rattle.std.specs.Prelude.{◌≡◌, true, ◌&&◌};
 ghost use Rattle.keys.specs.Orders.{below, greater};
 
 use super::key::Key;
@@ -15,6 +15,7 @@ pub fn is_below<K: Key>(a: K, b: K) -> bool
 pub fn is_same<K: Key>(a: K, b: K) -> bool
     ensures same { result ≡ true → a ≡ b }
     ensures found { a ≡ b → result ≡ true }
+    ensures answer { result ≡ (K.Key.le a b && K.Key.le b a) }
 {
     a.at_most(b) && b.at_most(a)
 }

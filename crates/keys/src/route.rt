@@ -5,7 +5,7 @@ use super::class::Class;
 
 mod calls;
 
-#[derive(Clone, Copy)]
+#[derive(Clone, Copy, PartialEq, Eq, Debug)]
 pub struct Route {
     entry: u16,
     exit: u16,
@@ -15,7 +15,7 @@ pub struct Route {
 }
 
 // The plain fields of a route.
-#[derive(Clone, Copy)]
+#[derive(Clone, Copy, PartialEq, Eq, Debug)]
 pub struct RouteFields {
     pub entry: u16,
     pub exit: u16,

@@ -5,7 +5,7 @@ ghost use Rattle.keys.specs.Names.{is_section};
 mod calls;
 mod names;
 
-#[derive(Clone, Copy)]
+#[derive(Clone, Copy, PartialEq, Eq, Debug)]
 pub struct Section {
     bytes: [u8; 8],
     ghost named: { is_section bytes ≡ true },

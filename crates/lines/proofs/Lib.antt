@@ -1,4 +1,3 @@
-pub mod Steps
 pub mod Names
 pub mod Spelled
 pub mod Rows

@@ -12,7 +12,7 @@ use stored::from_four;
 fn fault_line(heap: Global, fault: Fault) -> Result<String, AllocError>
     ensures { IfOk result (λ s. string_bytes s ≡ fault_line fault) }
 {
-    let number = fault.refusal.number();
+    let number = u8::from(fault.refusal);
     let layer = fault.layer.word();
     let row = fault.row;
     let offset = fault.offset;
@@ -41,7 +41,7 @@ fn number_at(bytes: &[u8], offset: usize) -> usize
 fn found(heap: Global, refusal: Refusal, bytes: &[u8], offset: usize) -> Result<String, AllocError>
     ensures { IfOk result (λ s. string_bytes s ≡ found refusal bytes.now offset) }
 {
-    if refusal.number() == 12 {
+    if u8::from(refusal) == 12 {
         let number = number_at(bytes, offset);
         return format!(in heap; "the number {number}");
     }

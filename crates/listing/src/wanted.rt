@@ -96,7 +96,7 @@ impl Wanted {
     pub fn of(refusal: Refusal, at: usize) -> Wanted
         ensures { result ≡ wanted refusal at }
     {
-        match refusal.number() {
+        match u8::from(refusal) {
             16 => Wanted::Kinds,
             13 => Wanted::Length,
             12 => Wanted::in_header(at),

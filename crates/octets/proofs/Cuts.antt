@@ -28,12 +28,9 @@ module _ (s : ℕ) where
       go ih false e = let k : length (c ∷ cs) ≤ length (c ∷ up_to s cs) = rw e at h in rw e (ap (onto_first c) (ih (omega arith)))
 
   -- the two parts of a text around its first separator
-  pub pieces-parted : (t : List ℕ) (n : ℕ) → n ≡ length (up_to s t) → n < length t → pieces s t ≡ take (n - 0) t ∷ pieces s (take (length t - (n + 1)) (drop (n + 1) t))
+  pub pieces-parted : (t : List ℕ) (n : ℕ) → n ≡ length (up_to s t) → n < length t → pieces s t ≡ take n t ∷ pieces s (take (length t - (n + 1)) (drop (n + 1) t))
   pieces-parted t n e h =
-      let front : take (n - 0) t ≡ up_to s t = ap (λ k. take k t) (subtract_none n ∙ e) ∙ up_to_front s t in
+      let front : take n t ≡ up_to s t = ap (λ k. take k t) e ∙ up_to_front s t in
       let short : length (drop (n + 1) t) ≡ length t - (n + 1) = length-drop (n + 1) t in
       let whole : take (length t - (n + 1)) (drop (n + 1) t) ≡ drop (n + 1) t = take_all _ _ (omega arith) in
       rw (front, whole, e) (pieces_more t (omega arith))
-    where
-      subtract_none : (k : ℕ) → k - 0 ≡ k
-      subtract_none k = omega arith

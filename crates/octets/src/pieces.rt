@@ -1,7 +1,7 @@
 // A text handed out piece by piece, cut at a separator.
 ghost use Rattle.std.specs.Prelude.{◌≡◌, ◌∷◌};
-ghost use Rattle.std.specs.Option.{option_map};
-ghost use Rattle.octets.specs.Cuts.{pieces, pieces_of, first_of, others_of};
+ghost use Rattle.std.specs.Iterator.{YieldsFirstRef, item_count};
+ghost use Rattle.octets.specs.Cuts.{pieces, pieces_of};
 
 use super::runs::length_before;
 
@@ -13,7 +13,7 @@ fn cut(text: &[u8], separator: u8) -> (&[u8], Option<&[u8]>)
     if size >= text.len() {
         return (text, None);
     }
-    (&text[0..size], Some(&text[size + 1..]))
+    (&text[..size], Some(&text[size + 1..]))
 }
 
 #[derive(Clone, Copy)]
@@ -31,19 +31,19 @@ impl<'a> Pieces<'a> {
             separator,
         }
     }
+}
 
-    // The next piece; none after the last.
-    pub fn next(&mut self) -> Option<&'a [u8]>
-        ensures answer { option_map (λ x. x.now) result ≡ first_of (pieces_of self.old.separator self.old.rest) }
-        ensures after { pieces_of self.new.separator self.new.rest ≡ others_of (pieces_of self.old.separator self.old.rest) }
-    {
-        match self.rest {
-            None => None,
-            Some(text) => {
-                let (piece, rest) = cut(text, self.separator);
-                self.rest = rest;
-                Some(piece)
-            }
-        }
+// The pieces come from the front, none after the last.
+impl<'a> Iterator for Pieces<'a> {
+    type Item = &'a [u8];
+
+    ghost next_gives = { YieldsFirstRef (λ s. pieces_of s.separator s.rest) };
+
+    ghost remaining = { item_count (λ s. pieces_of s.separator s.rest) };
+
+    fn next(&mut self) -> Option<&'a [u8]> {
+        let (piece, rest) = cut(self.rest?, self.separator);
+        self.rest = rest;
+        Some(piece)
     }
 }

@@ -40,7 +40,7 @@ fn words_of(reply: &Reply) -> ArrayString<LONGEST_REPLY>
                 push_named(&mut text, " tally ", tally.value());
             }
         }
-        Reply::Refused(refusal) => push_named(&mut text, "refused ", refusal.number()),
+        Reply::Refused(refusal) => push_named(&mut text, "refused ", u8::from(*refusal)),
     }
     text
 }

@@ -4,7 +4,7 @@ ghost use Rattle.requests.specs.Answers.{answer_code, answers};
 
 use super::kind::Kind;
 
-#[derive(Clone, Copy)]
+#[derive(Clone, Copy, PartialEq, Eq, Debug)]
 pub enum Answer<T> {
     // The key was entered or withdrawn.
     Changed,

@@ -1,6 +1,8 @@
 // The four kinds of request, and their numbers.
-ghost use Rattle.std.specs.Prelude.{◌≡◌, MatchOption, ◌≢◌};
-ghost use Rattle.requests.specs.Kinds.{kind_number};
+ghost use Rattle.std.specs.Prelude.{◌≡◌};
+ghost use Rattle.requests.specs.Kinds.{kind_number, KindOfNumber};
+
+use keys::Refusal;
 
 #[derive(Clone, Copy, PartialEq, Eq, Debug)]
 pub enum Kind {
@@ -10,28 +12,32 @@ pub enum Kind {
     Count,
 }
 
-impl Kind {
-    pub fn number(self) -> u8
-        ensures { result ≡ kind_number self }
-    {
-        match self {
+impl From<Kind> for u8 {
+    ghost from_gives = { λ kind number. number ≡ kind_number kind };
+
+    fn from(kind: Kind) -> u8 {
+        match kind {
             Kind::Enter => 1,
             Kind::Withdraw => 2,
             Kind::LookUp => 3,
             Kind::Count => 4,
         }
     }
+}
 
-    // The kind of that number; none where no kind has it.
-    pub fn from_number(number: u8) -> Option<Kind>
-        ensures { MatchOption result ((k : Kind) → kind_number k ≢ number) (λ k. kind_number k ≡ number) }
-    {
+// The kind of that number; a row has no other.
+impl TryFrom<u8> for Kind {
+    type Error = Refusal;
+
+    ghost try_from_gives = { KindOfNumber };
+
+    fn try_from(number: u8) -> Result<Kind, Refusal> {
         match number {
-            1 => Some(Kind::Enter),
-            2 => Some(Kind::Withdraw),
-            3 => Some(Kind::LookUp),
-            4 => Some(Kind::Count),
-            _ => None,
+            1 => Ok(Kind::Enter),
+            2 => Ok(Kind::Withdraw),
+            3 => Ok(Kind::LookUp),
+            4 => Ok(Kind::Count),
+            _ => Err(Refusal::RequestRow),
         }
     }
 }

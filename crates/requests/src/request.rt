@@ -4,7 +4,7 @@ ghost use Rattle.requests.specs.Requests.{kind_of};
 
 use super::kind::Kind;
 
-#[derive(Clone, Copy)]
+#[derive(Clone, Copy, PartialEq, Eq, Debug)]
 pub enum Request<K> {
     Enter(K),
     Withdraw(K),

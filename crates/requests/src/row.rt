@@ -8,7 +8,7 @@ use super::station::Station;
 
 mod calls;
 
-#[derive(Drop)]
+#[derive(PartialEq, Eq, Debug, Drop)]
 pub struct Row<K, T> {
     station: Station,
     request: Request<K>,

@@ -15,7 +15,7 @@ fn route_of(a: u8, b: u8, c: u8, d: u8, e: u8) -> Result<Route, Refusal>
 {
     let entry = from_two(a, b) as u32;
     let exit = from_two(c, d) as u32;
-    match Class::from_number(e) {
+    match Class::try_from(e) {
         Ok(class) => Route::new(entry, exit, class),
         Err(refusal) => Err(refusal),
     }
@@ -46,7 +46,7 @@ impl StoredKey for Route {
         row[1] = entry[1];
         row[2] = exit[0];
         row[3] = exit[1];
-        row[4] = self.class().number();
+        row[4] = u8::from(self.class());
         Ok(5)
     }
 

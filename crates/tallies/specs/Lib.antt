@@ -3,3 +3,4 @@ pub mod ClassCounts
 pub mod Modular
 pub mod ClassCountsLemmas
 pub mod NumbersLemmas
+pub mod TallyTexts

@@ -5,6 +5,7 @@ mod classes;
 mod number;
 mod pair;
 mod tally;
+mod texts;
 
 pub use classes::Classes;
 pub use number::Number;

@@ -1,4 +1,3 @@
-pub mod Values
 pub mod Marks
 pub mod Texts
 pub mod Rows

@@ -1,37 +1,15 @@
 -- The words of a route and its text are one thing in two forms. Rests on Texts and on the pieces of a text.
-use Rattle.std.proofs.Common.{◌≡◌, ℕ, ◌<◌, false, List, [], ◌∷◌, is_some, Some, None, decimal, Option, sym, ap, ◌∙◌, true≢false, arith, Bor}
-use Rattle.std.specs.Option.{option_map}
-use Rattle.octets.specs.Cuts.{pieces, first_of, others_of}
+use Rattle.std.proofs.Common.{◌≡◌, ℕ, ◌<◌, List, [], ◌∷◌, Some, None, decimal, Option, sym, ap, ◌∙◌, arith}
+use Rattle.octets.specs.Cuts.{pieces}
 use Rattle.octets.proofs.Joins.{joined_by, joined-pieces, pieces_alone, pieces-before}
 use Rattle.keys.specs.declared.class.Class.{Class}
 use Rattle.keys.specs.Classes.{class_letter}
 use Rattle.words.specs.declared.routes.RouteWords.{RouteWords}
 use Rattle.words.specs.Figures.{number_in}
 use Rattle.words.specs.Letters.{letter_in}
-use Rattle.words.specs.Lines.{all_three, route_words, row_words, line_words}
+use Rattle.words.specs.Lines.{all_three, row_words, line_words}
 use Rattle.words.specs.Meaning.{Written, fields_text}
 use Rattle.words.proofs.Texts.{number_text, number_short, number_back, decimal_lacks, letter_text, letter_back, letter_lacks}
-
--- a row of just three words
-row_by_words : (row : List (List ℕ)) (a b c : List ℕ) → Some a ≡ first_of row → Some b ≡ first_of (others_of row) → Some c ≡ first_of (others_of (others_of row)) → None ≡ first_of (others_of (others_of (others_of row))) → route_words a b c ≡ row_words row
-row_by_words [] a b c p q r e = let z : ◌≡◌ {A = ℕ} 0 1 = cc in absurd (omega arith)
-row_by_words (x ∷ []) a b c p q r e = let z : ◌≡◌ {A = ℕ} 0 1 = cc in absurd (omega arith)
-row_by_words (x ∷ y ∷ []) a b c p q r e = let z : ◌≡◌ {A = ℕ} 0 1 = cc in absurd (omega arith)
-row_by_words (x ∷ y ∷ z ∷ []) a b c p q r e = cc
-row_by_words (x ∷ y ∷ z ∷ u ∷ us) a b c p q r e = let z : ◌≡◌ {A = ℕ} 0 1 = cc in absurd (omega arith)
-
--- there is no next
-none_next : (o : Option (Bor (List ℕ))) (first : Option (List ℕ)) → false ≡ is_some o → option_map (λ x. x.now) o ≡ first → None ≡ first
-none_next None first h e = e
-none_next (Some r) first h e = absurd (true≢false (sym h))
-
--- the same, taken from what is left of a row one by one, until there is no next
-pub row_by_nexts : {row all later last past : List (List ℕ)} {a b c : List ℕ} (o : Option (Bor (List ℕ))) → all ≡ row → Some a ≡ first_of all → later ≡ others_of all → Some b ≡ first_of later → last ≡ others_of later → Some c ≡ first_of last → past ≡ others_of last → option_map (λ x. x.now) o ≡ first_of past → false ≡ is_some o → route_words a b c ≡ row_words row
-row_by_nexts {row = row} {a = a} {b = b} {c = c} o e p f q g r h n none =
-    let later = f ∙ ap others_of e in
-    let last = g ∙ ap others_of later in
-    let past = h ∙ ap others_of last in
-    row_by_words row a b c (p ∙ ap first_of e) (q ∙ ap first_of later) (r ∙ ap first_of last) (none_next o _ none (n ∙ ap first_of past))
 
 -- each of the three is there
 pub record Three (p q : Option ℕ) (r : Option Class) (w : RouteWords) : Type 0 where

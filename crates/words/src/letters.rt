@@ -8,8 +8,8 @@ use keys::Class;
 pub fn class_letter(word: &[u8]) -> Option<Class>
     ensures { result ≡ letter_in word.now }
 {
-    if word.len() != 1 {
+    let [letter] = word else {
         return None;
-    }
-    Class::from_letter(word[0] as char)
+    };
+    Class::try_from(char::from(*letter)).ok()
 }

@@ -22,10 +22,7 @@ fn all_value(word: &[u8]) -> Option<u32>
 {
     let mut value = 0u32;
     for byte in word {
-        if !byte.is_ascii_digit() {
-            return None;
-        }
-        value = value * 10 + (*byte - b'0') as u32;
+        value = value * 10 + char::from(*byte).to_digit(10)?;
     }
     Some(value)
 }

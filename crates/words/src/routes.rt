@@ -10,7 +10,7 @@ use keys::{Class, Refusal, Route};
 use octets::Pieces;
 
 // The three words of a route, read, and not yet checked for range.
-#[derive(Clone, Copy)]
+#[derive(Clone, Copy, PartialEq, Eq, Debug)]
 pub struct RouteWords {
     pub entry: u32,
     pub exit: u32,
@@ -44,10 +44,10 @@ fn line_words(line: &[u8]) -> Option<RouteWords>
     let entry = pieces.next()?;
     let exit = pieces.next()?;
     let class = pieces.next()?;
-    if pieces.next().is_some() {
-        return None;
+    match pieces.next() {
+        None => route_words(entry, exit, class),
+        Some(_) => None,
     }
-    route_words(entry, exit, class)
 }
 
 // The route that a line is: no such line where its words are of another form, out of range where a number is no signal.
@@ -55,8 +55,5 @@ pub fn read_route(line: &[u8]) -> Result<Route, Refusal>
     ensures answer { result ≡ line_route line.now }
     ensures meaning { Reads line.now result }
 {
-    match line_words(line) {
-        None => Err(Refusal::NoSuchLine),
-        Some(words) => words.route(),
-    }
+    line_words(line).ok_or(Refusal::NoSuchLine)?.route()
 }

@@ -61,7 +61,7 @@ pub fn put_request<K: StoredKey, T: StoredTally<K>>(row: &Row<K, T>, width: usiz
 {
     clear(part);
     let request = row.request();
-    part[0] = request.kind().number();
+    part[0] = u8::from(request.kind());
     part[1] = row.station().number();
     put_keys(request, width, &mut part[4..]);
 }

@@ -18,13 +18,13 @@ const GREATEST_SIGNAL: u16 = 9_999;
 fn is_signal(number: u32) -> bool
     ensures { result ≡ is_signal number }
 {
-    LEAST_SIGNAL as u32 <= number && number <= GREATEST_SIGNAL as u32
+    (u32::from(LEAST_SIGNAL)..=u32::from(GREATEST_SIGNAL)).contains(&number)
 }
 
 fn nearest_signal(number: u16) -> u16
     ensures { result ≡ nearest_signal number }
 {
-    number.min(GREATEST_SIGNAL).max(LEAST_SIGNAL)
+    number.clamp(LEAST_SIGNAL, GREATEST_SIGNAL)
 }
 
 impl Route {
@@ -87,13 +87,7 @@ impl Key for Route {
     ghost remade = { λ a. route_path _ a (omega arith) (omega arith) refl };
 
     fn at_most(self, other: Route) -> bool {
-        if self.entry != other.entry {
-            return self.entry < other.entry;
-        }
-        if self.exit != other.exit {
-            return self.exit < other.exit;
-        }
-        self.class.number() <= other.class.number()
+        (self.entry, self.exit, self.class) <= (other.entry, other.exit, other.class)
     }
 
     fn fields(self) -> RouteFields {

@@ -18,9 +18,7 @@ fn fill(name: &[u8]) -> [u8; 8]
     ensures { result ≡ filled name.now }
 {
     let mut bytes = [0u8; LONGEST_NAME];
-    for (i, byte) in name.iter().enumerate() {
-        bytes[i] = *byte;
-    }
+    bytes[..name.len()].copy_from_slice(name);
     bytes
 }
 
@@ -62,12 +60,7 @@ impl Key for Section {
     ghost remade = { λ a. sym (section_kept a a.bytes refl) };
 
     fn at_most(self, other: Section) -> bool {
-        for i in 0..LONGEST_NAME {
-            if self.bytes[i] != other.bytes[i] {
-                return self.bytes[i] < other.bytes[i];
-            }
-        }
-        true
+        self.bytes <= other.bytes
     }
 
     fn fields(self) -> [u8; 8] {

@@ -15,18 +15,13 @@ fn is_character(byte: u8) -> bool
 fn all_characters(name: &[u8]) -> bool
     ensures { result ≡ all_characters name.now }
 {
-    for byte in name {
-        if !is_character(*byte) {
-            return false;
-        }
-    }
-    true
+    name.iter().all(|byte| is_character(*byte))
 }
 
 pub fn is_name(name: &[u8]) -> bool
     ensures { result ≡ is_name name.now }
 {
-    1 <= name.len() && name.len() <= LONGEST_NAME && all_characters(name)
+    (1..=LONGEST_NAME).contains(&name.len()) && all_characters(name)
 }
 
 // Whether the bytes are eight that hold a name, and zeros alone after it.

@@ -61,10 +61,10 @@ impl Tally<Route> for Classes {
 
     fn opposite(self) -> Classes {
         Classes::new(
-            0u16.wrapping_sub(self.m),
-            0u16.wrapping_sub(self.w),
-            0u16.wrapping_sub(self.c),
-            0u16.wrapping_sub(self.s),
+            self.m.wrapping_neg(),
+            self.w.wrapping_neg(),
+            self.c.wrapping_neg(),
+            self.s.wrapping_neg(),
         )
     }
 

@@ -50,7 +50,7 @@ impl<K: Key> Tally<K> for Number {
     }
 
     fn opposite(self) -> Number {
-        Number::new(0u32.wrapping_sub(self.value))
+        Number::new(self.value.wrapping_neg())
     }
 
     fn weight(_key: K) -> Number {

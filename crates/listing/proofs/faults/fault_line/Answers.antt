@@ -5,4 +5,4 @@ use Rattle.listing.proofs.faults.fault_line.Goals as goal
 
 pub returns : goal.returns
 returns c =
-    IfOk-weaker c.format.result _ _ (λ s h. h ∙ ap₂ (λ n l. codes "fault " ++ (decimal n ++ (codes " " ++ (l ++ (codes " row " ++ (decimal c.args.fault.row ++ (codes " offset " ++ (decimal c.args.fault.offset ++ codes "\n")))))))) c.number-number.ensures c.word-layer.ensures) c.format.ensures.ok
+    IfOk-weaker c.format.result _ _ (λ s h. h ∙ ap₂ (λ n l. codes "fault " ++ (decimal n ++ (codes " " ++ (l ++ (codes " row " ++ (decimal c.args.fault.row ++ (codes " offset " ++ (decimal c.args.fault.offset ++ codes "\n")))))))) c.from-number.ensures c.word-layer.ensures) c.format.ensures.ok

@@ -1,20 +1,8 @@
--- One byte more is the value, or ends the search.
-use Rattle.std.proofs.Common.{arith}
-use Rattle.std.proofs.lemmas.List.{at_drop_more, at_drop_all}
+-- The test at each byte is the definition's.
+use Rattle.std.proofs.Common.{eqb, refl, rules}
+use Rattle.std.proofs.lemmas.List.Recursion.{and_is}
 use Rattle.octets.specs.Runs.{all_are}
 use Rattle.octets.proofs.runs.are_all.Goals as goal
 
-pub returns-then-byte-value : goal.returns-then-byte-value
-returns-then-byte-value c =
-    let s = at_drop_more (all_are c.args.value) c.args.bytes.now c.loop-byte.byte-index 0 c.loop-byte-test.true in
-    grind arith
-
-pub loop-byte-preserved : goal.loop-byte-preserved
-loop-byte-preserved c =
-    let s = at_drop_more (all_are c.args.value) c.args.bytes.now c.loop-byte.byte-index 0 c.loop-byte-test.true in
-    grind arith
-
 pub returns : goal.returns
-returns c =
-    let s = at_drop_all (all_are c.args.value) c.args.bytes.now c.loop-byte.byte-index c.loop-byte-test.false in
-    grind arith
+returns c = and_is (all_are c.args.value) (λ x. eqb x c.args.value) refl (λ _ _. refl) c.args.bytes.now 0 _ (search rules) (search rules)

@@ -1,31 +1,13 @@
--- The first bytes that differ decide; without such, the bytes are the same.
-use Rattle.std.proofs.Common.{sym, ◌∙◌, arith}
-use Rattle.keys.specs.OrdersLemmas.{by_first_differ, by_first-same}
-use Rattle.keys.specs.Texts.{text_more, text_end}
-use Rattle.keys.specs.SectionsLemmas.{section_long, section-bytes-le}
+-- Sections are in the order of their bytes.
+use Rattle.std.proofs.Common.{sym, refl, ◌∙◌, arith}
+use Rattle.std.specs.Ordering.{nat_cmp, is_le}
+use Rattle.std.proofs.lemmas.Bool.Decides.{nat_tests}
+use Rattle.std.proofs.lemmas.Cmp.{same_from_slice_cmp_tested}
+use Rattle.keys.specs.Orders.{text_le}
+use Rattle.keys.specs.SectionsLemmas.{section-bytes-le}
 use Rattle.keys.proofs.section.calls.SectionKey.at_most.Goals as goal
-
-pub returns-then-self-i : goal.returns-then-self-i
-returns-then-self-i c =
-    let a = c.args.self in
-    let b = c.args.other in
-    let p = section_long a in
-    let q = section_long b in
-    let more = text_more a.bytes b.bytes c.loop-i.i (omega arith) (omega arith) in
-    sym (section-bytes-le a b ∙ c.loop-i.invariant ∙ more ∙ by_first_differ _ _ _ c.if-self-i.true)
-
-pub loop-i-preserved : goal.loop-i-preserved
-loop-i-preserved c =
-    let a = c.args.self in
-    let b = c.args.other in
-    let p = section_long a in
-    let q = section_long b in
-    let more = text_more a.bytes b.bytes c.loop-i.i (omega arith) (omega arith) in
-    c.loop-i.invariant ∙ more ∙ by_first-same _ _ _ c.if-self-i.false
 
 pub returns : goal.returns
 returns c =
-    let a = c.args.self in
-    let b = c.args.other in
-    let p = section_long a in
-    sym (section-bytes-le a b ∙ c.loop-i.invariant ∙ text_end a.bytes b.bytes c.loop-i.i (omega arith))
+    let by = same_from_slice_cmp_tested nat_cmp is_le text_le refl (λ _ _. refl) (λ _ _. refl) (λ x y xs ys o h. grind (arith, nat_tests)) in
+    by c.args.self.bytes c.args.other.bytes _ c.le.ensures ∙ sym (section-bytes-le c.args.self c.args.other)

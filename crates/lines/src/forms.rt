@@ -14,10 +14,7 @@ use words::{RouteWords, number, route_words};
 fn at_end<T: Drop>(mut words: Pieces<'_>, read: T) -> Option<T>
     ensures { result ≡ at_end (left words.entry) read }
 {
-    match words.next() {
-        None => Some(read),
-        Some(_) => None,
-    }
+    words.next().is_none().then_some(read)
 }
 
 // The route that the next three words are.

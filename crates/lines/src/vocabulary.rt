@@ -13,7 +13,8 @@ pub enum Verb {
     Collect,
 }
 
-// The call that a word names; none where it names none, which makes the line no line and says no more (so an Option).
+// The call that a word names; none where it names none.
+// Kept: no TryFrom, since a word that names nothing has no error of its own; its line is then no line.
 pub fn verb_in(word: &[u8]) -> Option<Verb>
     ensures { result ≡ verb_in word.now }
 {
@@ -27,6 +28,7 @@ pub fn verb_in(word: &[u8]) -> Option<Verb>
 }
 
 // The kind of request that a word names; none where it names none.
+// Kept: no TryFrom, as above.
 pub fn kind_in(word: &[u8]) -> Option<Kind>
     ensures { result ≡ kind_in word.now }
 {

@@ -1,6 +1,6 @@
 -- Reading off: with nobody waiting, the tree's keys from left to right are the plain set. Rests on Finals.
 use Rattle.std.proofs.Common.{◌≡◌, ℕ, zero, suc, ◌+◌, ◌<◌, ◌≤◌, Bool, true, false, not, ◌&&◌, ◌||◌, eqb, List, [], ◌∷◌, ◌++◌, Some, None, sym, refl, ap, ◌∙◌, subst, ⊎_elim, true≢false, arith}
-use Rattle.std.proofs.lemmas.Bool.{cases_lt}
+use Rattle.std.proofs.lemmas.Bool.{cases_lt, false_from_ne_true, or_left, or_right}
 use Rattle.requests.specs.declared.request.Request.{Request}
 use Rattle.requests.specs.declared.request.Request.TheVariants.{Enter}
 use Rattle.rules.specs.Kinds.{Kinds, Lawful, same, before}
@@ -9,7 +9,7 @@ use Rattle.rules.specs.States.{State, Waiter}
 use Rattle.rules.specs.Queues.{stands, given, finished}
 use Rattle.rules.specs.ReadOff.{all_from_one, keys_under, keys_listed}
 use Rattle.rules.specs.Laws.{ReadingIsPlain}
-use Rattle.rules.proofs.Bools.{or_left, or_right, or_false, or_first, or_second, and_first, and_second, false_unless}
+use Rattle.rules.proofs.Bools.{or_false, or_first, or_second, and_first, and_second}
 use Rattle.rules.proofs.Order.{same_eq, before-le_trans}
 use Rattle.rules.proofs.Sets.{has_append, ascends_append, ascends_set_after, same_rows}
 use Rattle.rules.proofs.Times.{numbered_within, set-at_end}
@@ -69,7 +69,7 @@ module _ {K T : Type 0} (w : Kinds K T) (l : Lawful w) (rs : List (Request K)) w
     where
       go : (b : Bool) → R k ≡ b → (same w k j || false) ≡ (b && was w rs t k)
       go true e = or_false (same w k j) ∙ sym (g.1 k e)
-      go false e = or_false (same w k j) ∙ false_unless (same w k j) (λ f. true≢false (sym g.0 ∙ ap R (sym (same_eq w l k j f)) ∙ e))
+      go false e = or_false (same w k j) ∙ false_from_ne_true (same w k j) (λ f. true≢false (sym g.0 ∙ ap R (sym (same_eq w l k j f)) ∙ e))
   tree_has R t (node p s v q a b) i g k =
       let level : below q t ≡ t = ap (λ x. below x t) i.0 in
       let one = tree_has (left_of w R s) t a i.1 (subst (λ u. Good w rs (left_of w R s) u a) level g.2) k in
@@ -138,7 +138,7 @@ module _ {K T : Type 0} (w : Kinds K T) (l : Lawful w) (s : State K T) (x : Tree
       last = ⊎_elim (λ lt. absurd (let e = each time h.started (omega arith) in omega (arith, e.0))) (λ ge. omega (arith, near)) (cases_lt time (suc (given s)))
 
       silent : (i : ℕ) → waiting i x ≡ false
-      silent i = false_unless (waiting i x) (λ e.
+      silent i = false_from_ne_true (waiting i x) (λ e.
           let young = waiting-before w s.requests (Everywhere w s.requests) time x i h.good e in
           let old = waiting_over w s.requests (Everywhere w s.requests) time x 0 i h.good h.over e in
           true≢false (sym e ∙ (each i old (omega (arith, near))).1))

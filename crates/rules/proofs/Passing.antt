@@ -1,6 +1,6 @@
 -- Each kind of request leaving the gate. Rests on Gates, Meets, Shows and Shares.
 use Rattle.std.proofs.Common.{◌≡◌, ℕ, suc, ◌<◌, Bool, true, false, cond, ◌&&◌, ◌||◌, eqb, List, [], ◌∷◌, length, is_some, Some, None, sym, refl, ap, ◌∙◌, subst, ⊎_elim, true≢false, arith}
-use Rattle.std.proofs.lemmas.Bool.{cases_eq}
+use Rattle.std.proofs.lemmas.Bool.{cases_eq, false_from_ne_true, ne_eqb}
 use Rattle.requests.specs.declared.answer.Answer.{Answer}
 use Rattle.requests.specs.declared.answer.Answer.TheVariants as answer
 use Rattle.requests.specs.declared.request.Request.{Request}
@@ -14,7 +14,7 @@ use Rattle.rules.specs.Queues.{numbered, stands, behind}
 use Rattle.rules.specs.Changes.{with_queue, with_answer, with_gate}
 use Rattle.rules.specs.Moves.{wanted, is_present, enter_at, withdraw_at, shown, moved, acted}
 use Rattle.rules.specs.Carries.{sought}
-use Rattle.rules.proofs.Bools.{or_first, or_second, false_unless}
+use Rattle.rules.proofs.Bools.{or_first, or_second}
 use Rattle.rules.proofs.Order.{same_eq}
 use Rattle.rules.proofs.Weights.{neutral-right}
 use Rattle.rules.proofs.Times.{told}
@@ -25,7 +25,7 @@ use Rattle.rules.proofs.Children.{enter_child, withdraw_child, count_child, chil
 use Rattle.rules.proofs.Insides.{inside_over}
 use Rattle.rules.proofs.Pairs.{over_enter, over_withdraw, over_count}
 use Rattle.rules.proofs.Pends.{waiting, queue_share, pending}
-use Rattle.rules.proofs.Puts.{put-here, put_other, apart_eqb, drawn-put-queue}
+use Rattle.rules.proofs.Puts.{put-here, put_other, drawn-put-queue}
 use Rattle.rules.proofs.Hangs.{topped, topped_inside}
 use Rattle.rules.proofs.Touches.{top_left, top_right}
 use Rattle.rules.proofs.Meets.{Writes, Meets, entered, withdrawn, entered_is, withdrawn_is, enter_meets, withdraw_meets}
@@ -51,7 +51,7 @@ module _ {K T : Type 0} (w : Kinds K T) (l : Lawful w) (s : State K T) (x : Tree
   s₁ = with_queue s 0 (behind (s.queue 0))
 
   no_gate : inside 0 x ≡ false
-  no_gate = false_unless (inside 0 x) (λ e. let o = inside_over w rs all time x 0 0 h.good h.over e in omega arith)
+  no_gate = false_from_ne_true (inside 0 x) (λ e. let o = inside_over w rs all time x 0 0 h.good h.over e in omega arith)
 
   drawn-left : Drawn s₁.place s₁.queue x
   drawn-left = drawn-put-queue s.place s.queue x 0 (behind (s.queue 0)) no_gate h.drawn
@@ -62,10 +62,10 @@ module _ {K T : Type 0} (w : Kinds K T) (l : Lawful w) (s : State K T) (x : Tree
   outside-left : (i : ℕ) → inside i x ≡ false → (s₁.place i ≡ None) × (0 < i → s₁.queue i ≡ [])
   outside-left i out =
       let o = h.others i out in
-      (o.0, λ z. put_other s.queue 0 (behind (s.queue 0)) i (apart_eqb i 0 (λ e. omega arith)) ∙ o.1 z)
+      (o.0, λ z. put_other s.queue 0 (behind (s.queue 0)) i (ne_eqb i 0 (λ e. omega arith)) ∙ o.1 z)
 
   not-waiting : waiting time x ≡ false
-  not-waiting = false_unless (waiting time x) (λ e. let b = waiting-before w rs all time x time h.good e in omega arith)
+  not-waiting = false_from_ne_true (waiting time x) (λ e. let b = waiting-before w rs all time x time h.good e in omega arith)
 
   -- the request is answered at the gate, and the set is not changed by it
   module _ (v : Answer T) (unmoved : (k : K) → Unmoved w rs time k) (right : (lo hi : K) → r ≡ Count lo hi → ⊥) (bears : Bears w rs (with_answer s₁ time v) time r) where
@@ -106,14 +106,14 @@ module _ {K T : Type 0} (w : Kinds K T) (l : Lawful w) (s : State K T) (x : Tree
     }
       where
         flat : (i : ℕ) → inside i c ≡ false → topped c i ≡ false
-        flat i out = false_unless (topped c i) (λ e. true≢false (sym (topped_inside c i e) ∙ out))
+        flat i out = false_from_ne_true (topped c i) (λ e. true≢false (sym (topped_inside c i e) ∙ out))
 
         others : (i : ℕ) → inside i c ≡ false → (s'.place i ≡ None) × (0 < i → s'.queue i ≡ [])
         others i out =
             let old = outside-left i (grown i out) in
             ⊎_elim
             (λ zero_is. (ap s'.place zero_is ∙ m.place_here ∙ (outside-left 0 no_gate).0, λ z. absurd (omega arith)))
-            (λ other. let k = m.kept i (apart_eqb i 0 other) (flat i out) in (k.0 ∙ old.0, λ z. k.1 ∙ old.1 z))
+            (λ other. let k = m.kept i (ne_eqb i 0 other) (flat i out) in (k.0 ∙ old.0, λ z. k.1 ∙ old.1 z))
             (cases_eq i 0)
 
   gate_writes : Writes s₁ 0 (with_gate s₁) (slot_of x)
@@ -128,14 +128,14 @@ module _ {K T : Type 0} (w : Kinds K T) (l : Lawful w) (s : State K T) (x : Tree
   }
 
   top_gate : topped x 0 ≡ false
-  top_gate = false_unless (topped x 0) (λ e. true≢false (sym (topped_inside x 0 e) ∙ no_gate))
+  top_gate = false_from_ne_true (topped x 0) (λ e. true≢false (sym (topped_inside x 0 e) ∙ no_gate))
 
   gate_apart : eqb 0 time ≡ false
-  gate_apart = apart_eqb 0 time (λ e. omega (arith, h.started))
+  gate_apart = ne_eqb 0 time (λ e. omega (arith, h.started))
 
   none_there : s₁.queue time ≡ []
   none_there =
-      (outside-left time (false_unless (inside time x) (λ e. let b = inside_before w rs all time x time h.good e in omega arith))).1 h.started
+      (outside-left time (false_from_ne_true (inside time x) (λ e. let b = inside_before w rs all time x time h.good e in omega arith))).1 h.started
 
 -- a request that asks for what is already so changes nothing
 module _ {K T : Type 0} (w : Kinds K T) (l : Lawful w) (rs : List (Request K)) (t : ℕ) (k : K) where
@@ -292,7 +292,7 @@ module _ {K T : Type 0} (w : Kinds K T) (l : Lawful w) (s : State K T) (x : Tree
         once (node f sf v qf c d) g = (top_left w s.requests any time f sf v qf c d g, top_right w s.requests any time f sf v qf c d g)
 
         flat : (i : ℕ) → inside i x ≡ false → topped x i ≡ false
-        flat i out = false_unless (topped x i) (λ e. true≢false (sym (topped_inside x i e) ∙ out))
+        flat i out = false_from_ne_true (topped x i) (λ e. true≢false (sym (topped_inside x i e) ∙ out))
 
         others : (i : ℕ) → inside i (count_child w time Between x) ≡ false → (after.place i ≡ None) × (0 < i → after.queue i ≡ [])
         others i out =

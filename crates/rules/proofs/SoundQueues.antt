@@ -1,13 +1,13 @@
 -- Rising queues, who stands in them in which mode, and rows with one entry written. Rests on Joins.
 use Rattle.std.proofs.Common.{◌≡◌, ℕ, ◌<◌, ◌≤◌, Bool, true, false, ◌&&◌, eqb, ◌⊎◌, List, [], ◌∷◌, ◌++◌, sym, refl, ◌∙◌, inl, inr, true≢false, arith}
-use Rattle.std.proofs.lemmas.Bool.{eqb-true, eqb-false, eq-eqb}
+use Rattle.std.proofs.lemmas.Bool.{eqb-true, eqb-false, eq-eqb, or_left, or_right}
 use Rattle.rules.specs.declared.mode.Mode.{Mode}
 use Rattle.rules.specs.declared.mode.Mode.TheVariants.{Between, From, Upto}
 use Rattle.rules.specs.States.{Waiter}
 use Rattle.rules.specs.Queues.{stands, behind}
 use Rattle.rules.specs.Changes.{put}
 use Rattle.rules.specs.Sound.{same_mode, stands_in, Rises}
-use Rattle.rules.proofs.Bools.{both_true, or_cases, or_left, or_right, and_first, and_second}
+use Rattle.rules.proofs.Bools.{both_true, or_cases, and_first, and_second}
 use Rattle.rules.proofs.Joins.{stands_append}
 
 -- what holds of the entry written and of the old one holds of the row's

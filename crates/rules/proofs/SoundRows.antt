@@ -1,10 +1,10 @@
 -- A rising queue is known by who stands in it in which mode. Rests on SoundQueues.
 use Rattle.std.proofs.Common.{◌≡◌, ℕ, ◌<◌, Bool, true, false, ◌&&◌, ◌||◌, eqb, List, [], ◌∷◌, ◌++◌, sym, refl, ap, ◌∙◌, ap₂, true≢false, arith}
-use Rattle.std.proofs.lemmas.Bool.{eqb-true}
+use Rattle.std.proofs.lemmas.Bool.{eqb-true, or_right}
 use Rattle.rules.specs.declared.mode.Mode.{Mode}
 use Rattle.rules.specs.States.{Waiter}
 use Rattle.rules.specs.Sound.{same_mode, stands_in, Rises}
-use Rattle.rules.proofs.Bools.{or_cases, or_right, or_false, and_first, and_second}
+use Rattle.rules.proofs.Bools.{or_cases, or_false, and_first, and_second}
 use Rattle.rules.proofs.SoundQueues.{mode_true, in_stands, head_stands, rises-above}
 
 both_ways_true : (a b : Bool) → (a ≡ true → b ≡ true) → (b ≡ true → a ≡ true) → a ≡ b

@@ -1,11 +1,11 @@
 -- Who stands where: in the gate's queue, in the queues of the tree's places, and the lowest place of all. Rests on Holds and Descents.
 use Rattle.std.proofs.Common.{◌≡◌, ℕ, zero, suc, ◌<◌, ◌≤◌, Bool, true, false, cond, ◌||◌, eqb, List, [], ◌∷◌, Some, None, Option, sym, refl, ap, ◌∙◌, subst, true≢false, arith}
-use Rattle.std.proofs.lemmas.Bool.{eqb-true}
+use Rattle.std.proofs.lemmas.Bool.{eqb-true, or_left, or_right}
 use Rattle.requests.specs.declared.request.Request.{Request}
 use Rattle.rules.specs.Kinds.{Kinds}
 use Rattle.rules.specs.States.{Place, Waiter}
 use Rattle.rules.specs.Queues.{lowest, stands}
-use Rattle.rules.proofs.Bools.{or_cases, or_left, or_right}
+use Rattle.rules.proofs.Bools.{or_cases}
 use Rattle.rules.proofs.Trees.{Tree, bare, leaf, node, inside, Drawn}
 use Rattle.rules.proofs.Goods.{below, Lined, left_of, right_of, Good}
 use Rattle.rules.proofs.Joins.{stands-between}

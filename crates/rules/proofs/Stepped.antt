@@ -1,9 +1,10 @@
 -- All steps of a count at a place, one after another. Rests on Shows.
 use Rattle.std.proofs.Common.{◌≡◌, ℕ, Bool, true, false, ◌||◌, List, [], ◌∷◌, sym, refl, ap, ◌∙◌, subst, true≢false}
+use Rattle.std.proofs.lemmas.Bool.{false_from_ne_true}
 use Rattle.rules.specs.Kinds.{Kinds, Lawful}
 use Rattle.rules.specs.States.{State, Place}
 use Rattle.rules.specs.Moves.{on_left, on_right, Step, show, add, with_added, whole, shown, stepped_all}
-use Rattle.rules.proofs.Bools.{or_first, or_second, false_unless}
+use Rattle.rules.proofs.Bools.{or_first, or_second}
 use Rattle.rules.proofs.Weights.{neutral-right}
 use Rattle.rules.proofs.Trees.{Tree, slot_of, inside, Drawn, drawn_frame}
 use Rattle.rules.proofs.Children.{count_child}
@@ -59,7 +60,7 @@ module _ {K T : Type 0} (w : Kinds K T) (l : Lawful w) where
   counts_frame : (s s' : State K T) (t : ℕ) (x : T) (touched : ℕ → Bool) (y : Tree K T) → Counts w s s' t x touched → ((i : ℕ) → touched i ≡ true → inside i y ≡ false) → Drawn s.place s.queue y → Drawn s'.place s'.queue y
   counts_frame s s' t x touched y c away d =
       drawn_frame s.place s'.place s.queue s'.queue y
-      (λ i e. (ap (λ g. g i) c.place, c.queue i (false_unless (touched i) (λ h. true≢false (sym e ∙ away i h))))) d
+      (λ i e. (ap (λ g. g i) c.place, c.queue i (false_from_ne_true (touched i) (λ h. true≢false (sym e ∙ away i h))))) d
 
   module _ (t : ℕ) (lo hi : K) (f : Place K T) where
     -- what the steps leave of the state and of the two children

@@ -1,12 +1,11 @@
 -- A place of which one child has changed: what is drawn anew, and what is kept. Rests on Alter and Puts.
 use Rattle.std.proofs.Common.{◌≡◌, ℕ, ◌<◌, Bool, true, false, ◌||◌, eqb, List, Some, Option, sym, ap, ◌∙◌, true≢false, arith}
-use Rattle.std.proofs.lemmas.Bool.{false_from_ne_true, ne_eqb, or_left}
+use Rattle.std.proofs.lemmas.Bool.{false_from_ne_true, ne_eqb, or_left, or_parts}
 use Rattle.requests.specs.declared.request.Request.{Request}
 use Rattle.rules.specs.Kinds.{Kinds}
 use Rattle.rules.specs.States.{Place, Waiter}
 use Rattle.rules.specs.Queues.{numbered}
 use Rattle.rules.specs.Moves.{Side, on_left, on_right, with_slot_on}
-use Rattle.rules.proofs.Bools.{or_first, or_second}
 use Rattle.rules.proofs.Trees.{Tree, bare, leaf, node, slot_of, inside, drawn_place, Drawn, drawn_frame}
 use Rattle.rules.proofs.Goods.{below, left_of, right_of, Good}
 use Rattle.rules.proofs.Later.{left_in, right_in}
@@ -60,10 +59,10 @@ module _ {K T : Type 0} (w : Kinds K T) (rs : List (Request K)) (pl pl' : ℕ �
         (false_from_ne_true (topped c i) (λ e. let m = inside_maker w rs (left_of w R s) (below q now) c i g.2 (topped_inside c i e) in no (m.0, m.1, left_in w R s m.0 m.2)))
         (false_from_ne_true (topped d i) (λ e. let m = inside_maker w rs (right_of w R s) (below q now) d i g.3 (topped_inside d i e) in no (m.0, m.1, right_in w R s m.0 m.2)));
     out = λ i h.
-        let rest = or_second (eqb i p) (inside i c || inside i d) h in
-        kept i (or_first (eqb i p) (inside i c || inside i d) h)
-        (false_from_ne_true (topped c i) (λ e. true≢false (sym (topped_inside c i e) ∙ or_first (inside i c) (inside i d) rest)))
-        (false_from_ne_true (topped d i) (λ e. true≢false (sym (topped_inside d i e) ∙ or_second (inside i c) (inside i d) rest)));
+        let rest = (or_parts (eqb i p) (inside i c || inside i d) h).1 in
+        kept i (or_parts (eqb i p) (inside i c || inside i d) h).0
+        (false_from_ne_true (topped c i) (λ e. true≢false (sym (topped_inside c i e) ∙ (or_parts (inside i c) (inside i d) rest).0)))
+        (false_from_ne_true (topped d i) (λ e. true≢false (sym (topped_inside d i e) ∙ (or_parts (inside i c) (inside i d) rest).1)));
   }
 
   -- the same with one child as it was

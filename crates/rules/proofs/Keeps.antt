@@ -32,11 +32,11 @@ opens w l cells = record {
   answers = λ i r asked. absurd (nobody i r asked);
   counts = λ i lo hi asked. absurd (nobody i (Count lo hi) asked);
   uncounted = λ i e. refl;
-  walks = λ n t p noted. absurd (let z : ◌≡◌ {A = ℕ} 0 1 = cc in omega arith);
+  walks = λ n t p noted. absurd cc;
 }
   where
     nobody : {X : Type 0} (i : ℕ) (r : X) → numbered [] i ≡ Some r → ⊥
-    nobody i r e = let z : ◌≡◌ {A = ℕ} 0 1 = cc in omega arith
+    nobody i r e = absurd cc
 
 module _ {K T : Type 0} (w : Kinds K T) (rs : List (Request K)) (x : Tree K T) (time : ℕ) (s : State K T) (h : Holds w rs s x time) where
   -- a station's desk changes, and its note is no wrong walk

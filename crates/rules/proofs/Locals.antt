@@ -180,7 +180,7 @@ module _ {K T : Type 0} (w : Kinds K T) (l : Lawful w) (s : State K T) (p₀ : �
     pub enter_leaves : MovesAt (moved w s (suc p₀) e (Enter k)) (Enter k)
     enter_leaves =
         subst (λ st. MovesAt st (Enter k)) (sym same_state)
-        (scalar_leaves w l s p₀ e q line (Enter k) num R now sp tally a b n g d σ (enter_child w e.number k x) s' (hung_by w l s p₀ e q line (Enter k) num R now sp tally a b n g d (enter_child w e.number k) (before w k sp)) meets changes (λ lo hi no. let z : ◌≡◌ {A = ℕ} 0 1 = cc in omega arith))
+        (scalar_leaves w l s p₀ e q line (Enter k) num R now sp tally a b n g d σ (enter_child w e.number k x) s' (hung_by w l s p₀ e q line (Enter k) num R now sp tally a b n g d (enter_child w e.number k) (before w k sp)) meets changes (λ lo hi no. absurd cc))
       where
         σ : Side
         σ = side_of w (drawn_place sp tally a b) k
@@ -220,7 +220,7 @@ module _ {K T : Type 0} (w : Kinds K T) (l : Lawful w) (s : State K T) (p₀ : �
     pub withdraw_leaves : MovesAt (moved w s (suc p₀) e (Withdraw k)) (Withdraw k)
     withdraw_leaves =
         subst (λ st. MovesAt st (Withdraw k)) (sym same_state)
-        (scalar_leaves w l s p₀ e q line (Withdraw k) num R now sp tally a b n g d σ (withdraw_child w e.number k x) s' (hung_by w l s p₀ e q line (Withdraw k) num R now sp tally a b n g d (withdraw_child w e.number k) (before w k sp)) meets changes (λ lo hi no. let z : ◌≡◌ {A = ℕ} 0 1 = cc in omega arith))
+        (scalar_leaves w l s p₀ e q line (Withdraw k) num R now sp tally a b n g d σ (withdraw_child w e.number k x) s' (hung_by w l s p₀ e q line (Withdraw k) num R now sp tally a b n g d (withdraw_child w e.number k) (before w k sp)) meets changes (λ lo hi no. absurd cc))
       where
         σ : Side
         σ = side_of w (drawn_place sp tally a b) k

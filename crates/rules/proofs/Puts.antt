@@ -1,6 +1,6 @@
 -- Rows with one entry written, and trees whose own entries are not. Rests on Trees.
 use Rattle.std.proofs.Common.{◌≡◌, ℕ, true, false, eqb, List, Option, sym, refl, ap, ◌∙◌, true≢false, arith}
-use Rattle.std.proofs.lemmas.Bool.{false_from_ne_true, ne_eqb}
+use Rattle.std.proofs.lemmas.Bool.{ne_eqb}
 use Rattle.rules.specs.States.{Place, Waiter}
 use Rattle.rules.specs.Changes.{put}
 use Rattle.rules.proofs.Trees.{Tree, inside, Drawn, drawn_frame}

@@ -1,6 +1,6 @@
 -- What a move leaves to every other request: places, waiting, what a count still adds, ways. Rests on Pairs and Pends.
-use Rattle.std.proofs.Common.{◌≡◌, ℕ, Bool, true, false, cond, ◌||◌, eqb, List, [], ◌∷◌, ◌++◌, Some, None, Option, sym, refl, ap, ◌∙◌, ap₂, inl, inr, ⊎_elim, arith}
-use Rattle.std.proofs.lemmas.Bool.{ne_eqb, or_from}
+use Rattle.std.proofs.Common.{◌≡◌, ℕ, Bool, true, false, cond, ◌||◌, eqb, List, [], ◌∷◌, ◌++◌, Some, None, Option, sym, refl, ap, ◌∙◌, ap₂, inl, inr, ⊎_elim}
+use Rattle.std.proofs.lemmas.Bool.{ne_eqb, or_from, or_parts}
 use Rattle.requests.specs.declared.request.Request.{Request}
 use Rattle.requests.specs.declared.request.Request.TheVariants.{Enter, Withdraw, LookUp, Count}
 use Rattle.rules.specs.declared.mode.Mode.{Mode}
@@ -10,7 +10,7 @@ use Rattle.rules.specs.States.{Waiter}
 use Rattle.rules.specs.Queues.{numbered, stands}
 use Rattle.rules.specs.Moves.{count_steps}
 use Rattle.rules.specs.Carries.{says, later, last_word}
-use Rattle.rules.proofs.Bools.{bool_case, bool_map, or_false, or_first, or_second}
+use Rattle.rules.proofs.Bools.{bool_case, bool_map, or_false}
 use Rattle.rules.proofs.Weights.{neutral-right}
 use Rattle.rules.proofs.Trees.{Tree, bare, leaf, node, inside}
 use Rattle.rules.proofs.Goods.{left_of, right_of}
@@ -93,10 +93,10 @@ module _ {K T : Type 0} (w : Kinds K T) where
   grown_node r p s tally (x ∷ q) a b i e =
       let c = (moved_pair w r x.number x.mode s a b).0 in
       let d = (moved_pair w r x.number x.mode s a b).1 in
-      let below = or_second (eqb i p) (inside i c || inside i d) e in
-      let one = left-moved x.number (λ y z. inside i z ≡ false → inside i y ≡ false) (grown_left x.number i) r x.mode s a b (or_first (inside i c) (inside i d) below) in
-      let two = right-moved x.number (λ y z. inside i z ≡ false → inside i y ≡ false) (grown_left x.number i) r x.mode s a b (or_second (inside i c) (inside i d) below) in
-      or_from (eqb i p) (inside i a || inside i b) (or_first (eqb i p) (inside i c || inside i d) e) (or_from (inside i a) (inside i b) one two)
+      let below = (or_parts (eqb i p) (inside i c || inside i d) e).1 in
+      let one = left-moved x.number (λ y z. inside i z ≡ false → inside i y ≡ false) (grown_left x.number i) r x.mode s a b (or_parts (inside i c) (inside i d) below).0 in
+      let two = right-moved x.number (λ y z. inside i z ≡ false → inside i y ≡ false) (grown_left x.number i) r x.mode s a b (or_parts (inside i c) (inside i d) below).1 in
+      or_from (eqb i p) (inside i a || inside i b) (or_parts (eqb i p) (inside i c || inside i d) e).0 (or_from (inside i a) (inside i b) one two)
 
   -- every other request waits as before
   pub waits_enter : (t : ℕ) (k : K) (x : Tree K T) (i : ℕ) → (i ≡ t → ⊥) → waiting i (enter_child w t k x) ≡ waiting i x
@@ -194,7 +194,7 @@ module _ {K T : Type 0} (w : Kinds K T) (rs : List (Request K)) where
   -- where nothing was said, both were silent
   later-none : (a b : Option Bool) → later a b ≡ None → (a ≡ None) × (b ≡ None)
   later-none None b e = (refl, e)
-  later-none (Some d) b e = let z : ◌≡◌ {A = ℕ} 0 1 = cc in absurd (omega arith)
+  later-none (Some d) b e = absurd cc
 
   -- a queue that says nothing of a key says nothing with a silent request at its end
   pub last_word_silent : (k : K) (q : List Waiter) (e : Waiter) → last_word w rs k q ≡ None → word_of k e.number ≡ None → last_word w rs k (q ++ (e ∷ [])) ≡ None

@@ -19,7 +19,7 @@ some_one : {X : Type 0} (x y : X) → Some x ≡ Some y → x ≡ y
 some_one x y e = cc
 
 none_some : {X : Type 0} (x : X) → ◌≡◌ {A = Option X} None (Some x) → ⊥
-none_some x e = let z : ◌≡◌ {A = ℕ} 0 1 = cc in omega arith
+none_some x e = absurd cc
 
 module _ {K T : Type 0} {s : State K T} {last above : ℕ → ℕ} (h : SoundsBy s last above) where
   module _ (n : ℕ) (r : Request K) (station : is_station n ≡ true) (idle : (s.desk n).uncollected ≡ None) where

@@ -16,12 +16,12 @@ use Rattle.rules.proofs.Descents.{in_turn_end}
 
 -- the lowest number that passes is below the bound and passes
 pub lowest_passes : (test : ℕ → Bool) (b p : ℕ) → lowest test b ≡ Some p → (p < b) × (test p ≡ true)
-lowest_passes test zero p e = let z : ◌≡◌ {A = ℕ} 0 1 = cc in absurd (omega arith)
+lowest_passes test zero p e = absurd cc
 lowest_passes test (suc b) p e = go (lowest_passes test b p) (lowest test b) refl e
   where
     last : (c : Bool) → test b ≡ c → cond c (Some b) None ≡ Some p → (p < suc b) × (test p ≡ true)
     last true f u = let same : b ≡ p = cc in (omega arith, ap test (sym same) ∙ f)
-    last false f u = let z : ◌≡◌ {A = ℕ} 0 1 = cc in absurd (omega arith)
+    last false f u = absurd cc
 
     go : (lowest test b ≡ Some p → (p < b) × (test p ≡ true)) → (o : Option ℕ) → lowest test b ≡ o
         → elim o as (λ _. Option ℕ) [ Some i ↦ Some i | None ↦ cond (test b) (Some b) None ] ≡ Some p → (p < suc b) × (test p ≡ true)

@@ -71,13 +71,13 @@ module _ {K T : Type 0} (w : Kinds K T) (l : Lawful w) (rs : List (Request K)) (
   SlotTells z t = (z ≡ empty → was w rs t k ≡ false) × ((j : K) → z ≡ holds j → same w j k ≡ was w rs t k)
 
   slot_tells : (R : K → Bool) (t : ℕ) (x : Tree K T) → R k ≡ true → Good w rs R t x → SlotTells (slot_of x) t
-  slot_tells R t bare here g = (λ e. g k here, λ j e. absurd (let z : ◌≡◌ {A = ℕ} 0 1 = cc in omega arith))
+  slot_tells R t bare here g = (λ e. g k here, λ j e. absurd cc)
   slot_tells R t (leaf i) here g = (
-    λ e. absurd (let z : ◌≡◌ {A = ℕ} 0 1 = cc in omega arith),
+    λ e. absurd cc,
     λ j e. let is : i ≡ j = cc in same_sym w l j k ∙ ap (same w k) (sym is) ∙ sym (g.1 k here),
   )
   slot_tells R t (node f s v q a b) here g =
-      (λ e. absurd (let z : ◌≡◌ {A = ℕ} 0 1 = cc in omega arith), λ j e. absurd (let z : ◌≡◌ {A = ℕ} 0 1 = cc in omega arith))
+      (λ e. absurd cc, λ j e. absurd cc)
 
   -- on the way of the key down to place p: what is told there is what was above
   module _ (place : ℕ → Option (Place K T)) (queue : ℕ → List Waiter) where
@@ -92,8 +92,8 @@ module _ {K T : Type 0} (w : Kinds K T) (l : Lawful w) (rs : List (Request K)) (
       pub way : last_word w rs k (queue p) ≡ None → (f : ℕ) → slot_on (drawn_place split tally left right) (side_of w (drawn_place split tally left right) k) ≡ leads f → OnWay w rs k f x × (p < f)
 
     top_way : (p f : ℕ) (x : Tree K T) → slot_of x ≡ leads f → Over p x → OnWay w rs k f x × (p < f)
-    top_way p f bare e o = absurd (let z : ◌≡◌ {A = ℕ} 0 1 = cc in omega arith)
-    top_way p f (leaf j) e o = absurd (let z : ◌≡◌ {A = ℕ} 0 1 = cc in omega arith)
+    top_way p f bare e o = absurd cc
+    top_way p f (leaf j) e o = absurd cc
     top_way p f (node i s v q a b) e o = let is : f ≡ i = cc in (inl is, omega arith)
 
     told_here : (R : K → Bool) (now : ℕ) (p : ℕ) (s : K) (v : T) (q : List Waiter) (a b : Tree K T) → now ≤ suc (length rs) → R k ≡ true → Good w rs R now (node p s v q a b) → Drawn place queue (node p s v q a b) → ToldAt p R now (node p s v q a b)
@@ -197,7 +197,7 @@ reads_walk {K = K} {T = T} w l rs x time s h t p walk = go p walk.way
         absurd (clash (sym at.made ∙ (h.others 0 no_gate).0))
       where
         clash : {X : Type 0} {y : X} → Some y ≡ None → ⊥
-        clash c = let z : ◌≡◌ {A = ℕ} 0 1 = cc in omega arith
+        clash c = absurd cc
     go (suc p₀) way =
         let at = told_on_way w l rs key s.place s.queue (Everywhere w rs) time x (suc p₀) near refl h.good h.drawn way in
         let read = slot_for-made w s p₀ key (drawn_place at.split at.tally at.left at.right) at.made in (

@@ -81,8 +81,7 @@ module _ {K T : Type 0} (w : Kinds K T) (rs : List (Request K)) (s : State K T) 
           let num = numbered_some s.requests r v.0 (omega (arith, v.1)) in
           let none = e u in
           let some = num.1 in
-          let z : ◌≡◌ {A = ℕ} 0 1 = cc in
-          omega arith)),
+          absurd cc)),
     )
     lapse_lowers (note.Walk r p) has v e = (
       note.None,

@@ -1,14 +1,14 @@
 -- The last word on a key is that of the highest request held with one. Rests on Firsts, Choosing and Sets.
 use Rattle.std.proofs.Common.{◌≡◌, ℕ, ◌<◌, ◌≤◌, max, Bool, true, false, cond, eqb, List, [], ◌∷◌, is_some, Some, None, Option, sym, refl, ap, ◌∙◌, true≢false, arith}
 use mathlib.Core.Logic.{∥∥₁_elim}
-use Rattle.std.proofs.lemmas.Bool.{eqb-true, or_right}
+use Rattle.std.proofs.lemmas.Bool.{eqb-true}
 use Rattle.requests.specs.declared.request.Request.{Request}
 use Rattle.rules.specs.Carries.{later, last_word}
 use Rattle.rules.specs.Kinds.{Kinds}
 use Rattle.rules.specs.Queues.{stands}
 use Rattle.rules.specs.Sound.{Rises, Sounds, Sound}
 use Rattle.rules.specs.States.{State, Waiter}
-use Rattle.rules.proofs.Bools.{or_cases}
+use Rattle.rules.proofs.Bools.{or_cases, or_right}
 use Rattle.rules.proofs.SoundQueues.{rises-above}
 use Rattle.queues.specs.Chosen.{chosen_by}
 use Rattle.queues.specs.Held.{held_at}

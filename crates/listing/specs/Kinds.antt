@@ -9,8 +9,8 @@ use Rattle.listing.specs.declared.kinds.KeyKind.{KeyKind}
 use Rattle.listing.specs.declared.kinds.KeyKind.TheVariants.{Routes, Sections, AreaRoutes, AreaSections}
 use Rattle.listing.specs.declared.kinds.TallyKind.{TallyKind}
 use Rattle.listing.specs.declared.kinds.TallyKind.TheVariants.{Numbers, ByClass, NumbersByClass}
-use Rattle.printing.specs.KeyTexts.{route_text, section_text, area_text}
-use Rattle.printing.specs.TallyTexts.{number_text, classes_text, pair_text}
+use Rattle.keys.specs.KeyTexts.{route_text, section_text, area_text}
+use Rattle.tallies.specs.TallyTexts.{number_text, classes_text, pair_text}
 use Rattle.listing.specs.Reports.{Printing}
 
 abbrev pub key_word : KeyKind → List ℕ

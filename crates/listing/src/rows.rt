@@ -15,8 +15,7 @@ use std::alloc::{AllocError, Global};
 fn keyed<K: PrintedKey>(heap: Global, word: &str, key: K) -> Result<String, AllocError>
     ensures { IfOk result (λ s. string_bytes s ≡ word.now ++ (K.PrintedKey.text key)) }
 {
-    let text = key.print(heap)?;
-    format!(in heap; "{word}{text}")
+    format!(in heap; "{word}{key}")
 }
 
 fn request_text<K: PrintedKey>(heap: Global, request: Request<K>) -> Result<String, AllocError>
@@ -26,11 +25,7 @@ fn request_text<K: PrintedKey>(heap: Global, request: Request<K>) -> Result<Stri
         Request::Enter(key) => keyed(heap, "enter ", key),
         Request::Withdraw(key) => keyed(heap, "withdraw ", key),
         Request::LookUp(key) => keyed(heap, "lookup ", key),
-        Request::Count(first, second) => {
-            let lo = first.print(heap)?;
-            let hi = second.print(heap)?;
-            format!(in heap; "count {lo} {hi}")
-        }
+        Request::Count(first, second) => { format!(in heap; "count {first} {second}") }
     }
 }
 
@@ -47,10 +42,7 @@ fn answer_text<K: PrintedKey, T: PrintedTally<K>>(
             Answer::Unchanged => String::from_str(heap, "answer 2"),
             Answer::Present => String::from_str(heap, "answer 3"),
             Answer::Absent => String::from_str(heap, "answer 4"),
-            Answer::Counted(tally) => {
-                let text = tally.print(heap)?;
-                format!(in heap; "answer 5 tally {text}")
-            }
+            Answer::Counted(tally) => { format!(in heap; "answer 5 tally {tally}") }
         },
     }
 }

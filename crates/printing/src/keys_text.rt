@@ -1,56 +1,34 @@
-// Keys as text.
-ghost use Rattle.std.specs.Prelude.{◌≡◌, ℕ, List, [], ◌∷◌, IfOk, string_bytes};
-ghost use Rattle.keys.specs.Classes.{class_letter};
-ghost use Rattle.printing.specs.KeyTexts.{route_text, section_text, area_text};
+// Stored kinds of key that can be printed.
+ghost use Rattle.std.specs.Prelude.{◌≡◌, ℕ, List, Some, refl, option_map};
+ghost use Rattle.std.proofs.Common.{ap};
+ghost use Rattle.keys.specs.KeyTexts.{route_text, section_text, area_text};
 
-use keys::{Area, Class, Route, Section};
-use std::alloc::{AllocError, Global};
+use keys::{Area, Route, Section};
+use std::fmt::Display;
 use stored::StoredKey;
 
-// A stored kind of key that can be printed.
-pub trait PrintedKey: StoredKey {
+// A stored kind of key each of which is printed as a text.
+pub trait PrintedKey: StoredKey + Display {
     ghost text: { Self → List ℕ };
 
-    fn print(self, heap: Global) -> Result<String, AllocError>
-        ensures { IfOk result (λ s. string_bytes s ≡ text self) };
-}
-
-fn class_word(class: Class) -> &'static str
-    ensures { result.now ≡ class_letter class ∷ [] }
-{
-    match class {
-        Class::M => "M",
-        Class::W => "W",
-        Class::C => "C",
-        Class::S => "S",
-    }
+    // What is printed of a key is its text.
+    ghost printed: { (k : Self) → Self.output k ≡ Some (text k) };
 }
 
 impl PrintedKey for Route {
     ghost text = { route_text };
 
-    fn print(self, heap: Global) -> Result<String, AllocError> {
-        let entry = self.entry();
-        let exit = self.exit();
-        let class = class_word(self.class());
-        format!(in heap; "{entry} {exit} {class}")
-    }
+    ghost printed = { λ _. refl };
 }
 
 impl PrintedKey for Section {
     ghost text = { section_text };
 
-    fn print(self, heap: Global) -> Result<String, AllocError> {
-        String::from_utf8_lossy(heap, self.name())
-    }
+    ghost printed = { λ _. refl };
 }
 
 impl<K: PrintedKey> PrintedKey for Area<K> {
-    ghost text = { area_text K.PrintedKey.text };
+    ghost text = { area_text K.text };
 
-    fn print(self, heap: Global) -> Result<String, AllocError> {
-        let number = self.number;
-        let below = self.key.print(heap)?;
-        format!(in heap; "{number} {below}")
-    }
+    ghost printed = { λ a. ap (option_map (λ key. area_text (λ _. key) a)) (K.printed a.key) };
 }

@@ -1,47 +1,36 @@
-// Tallies as text.
-ghost use Rattle.std.specs.Prelude.{◌≡◌, ℕ, List, IfOk, string_bytes};
-ghost use Rattle.printing.specs.TallyTexts.{number_text, classes_text, pair_text};
+// Stored kinds of tally that can be printed.
+ghost use Rattle.std.specs.Prelude.{◌≡◌, ℕ, List, Some, refl};
+ghost use Rattle.std.specs.Option.{option_map, option_zip};
+ghost use Rattle.std.proofs.Common.{ap₂};
+ghost use Rattle.tallies.specs.TallyTexts.{number_text, classes_text, pair_text};
 
-use keys::{Class, Key, Route};
-use std::alloc::{AllocError, Global};
+use keys::{Key, Route};
+use std::fmt::Display;
 use stored::StoredTally;
 use tallies::{Classes, Number, Pair};
 
-// A stored kind of tally that can be printed.
-pub trait PrintedTally<K: Key>: StoredTally<K> {
+// A stored kind of tally each of which is printed as a text.
+pub trait PrintedTally<K: Key>: StoredTally<K> + Display {
     ghost text: { Self → List ℕ };
 
-    fn print(self, heap: Global) -> Result<String, AllocError>
-        ensures { IfOk result (λ s. string_bytes s ≡ text self) };
+    // What is printed of a tally is its text.
+    ghost printed: { (t : Self) → Self.output t ≡ Some (text t) };
 }
 
 impl<K: Key> PrintedTally<K> for Number {
     ghost text = { number_text };
 
-    fn print(self, heap: Global) -> Result<String, AllocError> {
-        let value = self.value();
-        format!(in heap; "{value}")
-    }
+    ghost printed = { λ _. refl };
 }
 
 impl PrintedTally<Route> for Classes {
     ghost text = { classes_text };
 
-    fn print(self, heap: Global) -> Result<String, AllocError> {
-        let m = self.count(Class::M);
-        let w = self.count(Class::W);
-        let c = self.count(Class::C);
-        let s = self.count(Class::S);
-        format!(in heap; "{m} {w} {c} {s}")
-    }
+    ghost printed = { λ _. refl };
 }
 
 impl<K: Key, A: PrintedTally<K>, B: PrintedTally<K>> PrintedTally<K> for Pair<A, B> {
-    ghost text = { pair_text A.PrintedTally.text B.PrintedTally.text };
+    ghost text = { pair_text A.text B.text };
 
-    fn print(self, heap: Global) -> Result<String, AllocError> {
-        let first = self.first.print(heap)?;
-        let second = self.second.print(heap)?;
-        format!(in heap; "{first} {second}")
-    }
+    ghost printed = { λ p. ap₂ (λ x y. option_map (λ both. pair_text (λ _. both.0) (λ _. both.1) p) (option_zip x y)) (A.printed p.first) (B.printed p.second) };
 }

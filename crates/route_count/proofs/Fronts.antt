@@ -1,7 +1,8 @@
 -- The first line of a text and the lines after it. Rests on the pieces of a text.
-use Rattle.std.proofs.Common.{◌≡◌, ℕ, ◌+◌, ◌-◌, ◌<◌, ◌≤◌, List, [], ◌∷◌, length, take, drop, refl, ap, ◌∙◌, arith}
+use Rattle.std.proofs.Common.{◌≡◌, ℕ, ◌+◌, ◌-◌, ◌<◌, ◌≤◌, Bool, true, false, eqb, List, [], ◌∷◌, length, take, drop, refl, ap, ◌∙◌, arith}
 use Rattle.std.proofs.lemmas.List.{take_rest, drop_all}
 use Rattle.octets.specs.Runs.{up_to}
+use Rattle.octets.specs.Cuts.{pieces, onto_first}
 use Rattle.octets.proofs.Cuts.{pieces-last, pieces-parted}
 use Rattle.octets.proofs.Joins.{pieces_some}
 use Rattle.route_count.specs.Rows.{but_empty_last, lines}
@@ -25,6 +26,20 @@ more_lines p [] h = absurd (omega arith)
 more_lines p (q ∷ qs) h = refl
 
 -- a newline ends the first line
-pub first_line : (t : List ℕ) (n : ℕ) → n ≡ length (up_to 10 t) → n < length t → lines t ≡ take (n - 0) t ∷ lines (take (length t - (n + 1)) (drop (n + 1) t))
+pub first_line : (t : List ℕ) (n : ℕ) → n ≡ length (up_to 10 t) → n < length t → lines t ≡ take n t ∷ lines (take (length t - (n + 1)) (drop (n + 1) t))
 first_line t n e h =
-    ap but_empty_last (pieces-parted 10 t n e h) ∙ more_lines (take (n - 0) t) _ (pieces_some 10 (take (length t - (n + 1)) (drop (n + 1) t)))
+    ap but_empty_last (pieces-parted 10 t n e h) ∙ more_lines (take n t) _ (pieces_some 10 (take (length t - (n + 1)) (drop (n + 1) t)))
+
+onto_few : (c : ℕ) (ps : List (List ℕ)) (n : ℕ) → length (but_empty_last ps) ≤ n → length (but_empty_last (onto_first c ps)) ≤ n + 1
+onto_few c [] n h = omega arith
+onto_few c (p ∷ []) n h = omega arith
+onto_few c (p ∷ q ∷ qs) n h = omega arith
+
+-- there are no more lines than bytes
+pub lines_few : (t : List ℕ) → length (lines t) ≤ length t
+lines_few [] = omega arith
+lines_few (c ∷ cs) = go (lines_few cs) (eqb c 10) refl
+  where
+    go : length (lines cs) ≤ length cs → (b : Bool) → eqb c 10 ≡ b → length (lines (c ∷ cs)) ≤ length (c ∷ cs)
+    go ih true e = let more = more_lines [] (pieces 10 cs) (pieces_some 10 cs) in rw (e, more) (omega arith)
+    go ih false e = let more = onto_few c (pieces 10 cs) (length cs) ih in rw e (omega arith)

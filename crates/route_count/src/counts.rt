@@ -3,7 +3,7 @@ ghost use Rattle.std.specs.Prelude.{◌≡◌};
 ghost use Rattle.route_count.specs.Rows.{readings};
 ghost use Rattle.route_count.specs.Totals.{Counts, routes_weight, with_reading};
 
-use super::lines::first_line;
+use super::lines::Lines;
 use keys::{Refusal, Route};
 use tallies::{Classes, Number, Pair, Tally};
 use words::read_route;
@@ -27,10 +27,8 @@ pub fn count(text: &[u8]) -> Pair<Number, Classes>
     ensures meaning { Counts (readings text.now) result }
 {
     let mut total: Pair<Number, Classes> = <Pair<_, _> as Tally<_>>::zero();
-    let mut left = text;
-    while let Some((line, rest)) = first_line(left) {
+    for line in Lines::new(text) {
         total = counted(read_route(line), total);
-        left = rest;
     }
     total
 }

@@ -4,7 +4,7 @@ ghost use Rattle.route_count.specs.Reports.{refused_line, refused_lines, totals_
 ghost use Rattle.route_count.specs.Rows.{readings};
 
 use super::counts::count;
-use super::lines::first_line;
+use super::lines::Lines;
 use keys::{Class, Refusal};
 use std::alloc::{AllocError, Global};
 use tallies::{Classes, Number, Pair};
@@ -14,8 +14,7 @@ use words::read_route;
 fn refused_line(heap: Global, number: usize, refusal: Refusal) -> Result<String, AllocError>
     ensures { IfOk result (λ s. string_bytes s ≡ refused_line number refusal) }
 {
-    let refused = refusal.number();
-    format!(in heap; "line {number} refused {refused}\n")
+    format!(in heap; "line {number} refused {refusal}\n")
 }
 
 // What is written of the routes.
@@ -35,15 +34,11 @@ fn refused_lines(heap: Global, text: &[u8]) -> Result<String, AllocError>
     ensures { IfOk result (λ s. string_bytes s ≡ refused_lines 1 (readings text.now)) }
 {
     let mut written = String::new(heap);
-    let mut number = 0usize;
-    let mut left = text;
-    while let Some((line, rest)) = first_line(left) {
-        number += 1;
+    for (index, line) in Lines::new(text).enumerate() {
         if let Err(refusal) = read_route(line) {
-            let note = refused_line(heap, number, refusal)?;
+            let note = refused_line(heap, index + 1, refusal)?;
             written.push_str(note.as_str())?;
         }
-        left = rest;
     }
     Ok(written)
 }

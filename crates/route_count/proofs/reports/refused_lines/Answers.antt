@@ -1,10 +1,14 @@
--- A refused line more is written.
-use Rattle.std.proofs.Common.{◌+◌, string_bytes, arith}
-use Rattle.route_count.proofs.Pages.{refused_more}
+-- There are no more lines than bytes, so their numbers fit.
+use Rattle.std.proofs.Common.{◌≡◌, ◌+◌, ◌<◌, ◌≤◌, ◌^◌, length, inl, arith, rules}
+use Rattle.route_count.specs.Rows.{lines}
+use Rattle.route_count.proofs.Fronts.{lines_few}
 use Rattle.route_count.proofs.reports.refused_lines.Goals as goal
 
-pub loop-line-preserved-in_ok-push_str : goal.loop-line-preserved-in_ok-push_str
-loop-line-preserved-in_ok-push_str c =
-    let first = c.in-Some.ensures in
-    let shorter = first.bound in
-    (refused_more c.loop-line.left.now c.in-Some.rest.now (string_bytes c.loop-line.written) (c.loop-line.number + 1) c.in-Err.refusal first.answer c.in-Err.ensures.answer c.in_ok-push_str.ensures.bytes c.as_str.ensures.value c.in_ok-note.ensures c.loop-line.invariant.0, omega arith)
+pub loop-index-init-derived : goal.loop-index-init-derived
+loop-index-init-derived c =
+    let all = c.into_iter-index-iterator.result in
+    let first : all.count ≡ 0 = search rules in
+    let left : all.iter.left.now ≡ c.args.text.now = search rules in
+    let short : length (lines all.iter.left.now) ≤ length c.args.text.now = rw left (lines_few c.args.text.now) in
+    let bound : all.count + length (lines all.iter.left.now) < 2 ^ 64 = omega arith in
+    ((tt, tt, inl bound), tt)

@@ -1,2 +1,0 @@
-pub mod KeyTexts
-pub mod TallyTexts

@@ -1,14 +1,14 @@
 // The form that the words of a line are: read from the front, with none left over.
-ghost use Rattle.std.specs.Prelude.{◌≡◌, drop};
+ghost use Rattle.std.specs.Prelude.{◌≡◌};
 ghost use Rattle.octets.specs.Cuts.{pieces};
-ghost use Rattle.words.specs.Lines.{row_words};
-ghost use Rattle.lines.specs.Forms.{left, at_end, next_route, last_number, count_in, request_in, asked_in, call_in, row_form};
+ghost use Rattle.words.specs.Lines.{left};
+ghost use Rattle.lines.specs.Forms.{at_end, last_number, count_in, request_in, asked_in, call_in, row_form};
 
 use super::call::Call;
 use super::vocabulary::{Verb, kind_in, verb_in};
 use octets::Pieces;
 use requests::{Kind, Request};
-use words::{RouteWords, number, route_words};
+use words::{RouteWords, last_route, next_route, number};
 
 // What was read, where no word is left.
 fn at_end<T: Drop>(mut words: Pieces<'_>, read: T) -> Option<T>
@@ -17,31 +17,12 @@ fn at_end<T: Drop>(mut words: Pieces<'_>, read: T) -> Option<T>
     words.next().is_none().then_some(read)
 }
 
-// The route that the next three words are.
-fn next_route(words: &mut Pieces<'_>) -> Option<RouteWords>
-    ensures answer { result ≡ next_route (left words.old) }
-    ensures after { left words.new ≡ drop 3 (left words.old) }
-{
-    let entry = words.next()?;
-    let exit = words.next()?;
-    let class = words.next()?;
-    route_words(entry, exit, class)
-}
-
 // The number that the only word left is.
 fn last_number(mut words: Pieces<'_>) -> Option<u32>
     ensures { result ≡ last_number (left words.entry) }
 {
     let number = number(words.next()?)?;
     at_end(words, number)
-}
-
-// The route that the only three words left are.
-fn last_route(mut words: Pieces<'_>) -> Option<RouteWords>
-    ensures { result ≡ row_words (left words.entry) }
-{
-    let route = next_route(&mut words)?;
-    at_end(words, route)
 }
 
 // The count whose two routes are all the words left.

@@ -1,5 +1,5 @@
 -- What becomes of the first request of a fresh register: all computed once it is taken.
-use Rattle.std.proofs.Common.{◌≡◌, ℕ, ◌≤◌, List, [], ◌∷◌, ◌++◌, Result, sym, refl, ap, ◌∙◌, subst, arith}
+use Rattle.std.proofs.Common.{◌≡◌, ℕ, ◌≤◌, List, [], ◌∷◌, ◌++◌, Result, sym, refl, ap, ◌∙◌, subst}
 use Rattle.keys.specs.declared.refusal.Refusal.{Refusal}
 use Rattle.requests.specs.declared.request.Request.{Request}
 use Rattle.requests.specs.declared.request.Request.TheVariants.{Enter, Withdraw, LookUp, Count}
@@ -33,7 +33,7 @@ module _ {K T : Type 0} (w : Kinds K T) where
       (carries cells (Withdraw j) both_see 1 _ h refl, carries cells (Withdraw j) (both_see ++ (carry 1 ∷ [])) 2 _ h refl)
   seen_undecided cells (LookUp j) k h e =
       (carries cells (LookUp j) both_see 1 _ h refl, carries cells (LookUp j) (both_see ++ (carry 1 ∷ [])) 2 _ h refl)
-  seen_undecided cells (Count lo hi) k h e = let z : ◌≡◌ {A = ℕ} 0 1 = cc in absurd (omega arith)
+  seen_undecided cells (Count lo hi) k h e = absurd cc
 
   pub seen_decided : SeenDecided w
   seen_decided cells (Enter j) k h e =
@@ -42,7 +42,7 @@ module _ {K T : Type 0} (w : Kinds K T) where
       (carries cells (Withdraw j) both_see_decided 1 _ h refl, carries cells (Withdraw j) (both_see_decided ++ (carry 1 ∷ [])) 2 _ h refl)
   seen_decided cells (LookUp j) k h e =
       (carries cells (LookUp j) both_see_decided 1 _ h refl, carries cells (LookUp j) (both_see_decided ++ (carry 1 ∷ [])) 2 _ h refl)
-  seen_decided cells (Count lo hi) k h e = let z : ◌≡◌ {A = ℕ} 0 1 = cc in absurd (omega arith)
+  seen_decided cells (Count lo hi) k h e = absurd cc
 
   pub first_needs_four : FirstNeedsFour w
   first_needs_four cells k h = (

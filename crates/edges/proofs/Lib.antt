@@ -8,7 +8,6 @@ pub mod Quiet
 pub mod QuietMoves
 pub mod QuietCalls
 pub mod Cases
-pub mod Sizes
 pub mod Ways
 pub mod Teeth
 pub mod Unbroken

@@ -1,5 +1,5 @@
 -- Every call keeps the narrow counts quiet, so a count with an empty range bears zero after any run.
-use Rattle.std.proofs.Common.{◌≡◌, ℕ, zero, suc, Bool, true, false, cond, eqb, List, [], ◌∷◌, ◌++◌, Some, None, Ok, Err, Option, Result, refl, ap, ◌∙◌, subst, ap₂, arith, eqb-true}
+use Rattle.std.proofs.Common.{◌≡◌, ℕ, zero, suc, Bool, true, false, cond, eqb, List, [], ◌∷◌, ◌++◌, Some, None, Ok, Err, Option, Result, refl, ap, ◌∙◌, subst, ap₂, eqb-true}
 use Rattle.keys.specs.declared.refusal.Refusal.{Refusal}
 use Rattle.requests.specs.declared.answer.Answer.{Answer}
 use Rattle.requests.specs.declared.answer.Answer.TheVariants.{Counted}
@@ -23,8 +23,8 @@ use Rattle.edges.proofs.QuietMoves.{acted_still}
 
 -- a request keeps its number when others come behind it
 numbered_front : {X : Type 0} (xs ys : List X) (t : ℕ) (x : X) → numbered xs t ≡ Some x → numbered (xs ++ ys) t ≡ Some x
-numbered_front [] ys t x e = let z : ◌≡◌ {A = ℕ} 0 1 = cc in absurd (omega arith)
-numbered_front (a ∷ xs) ys zero x e = let z : ◌≡◌ {A = ℕ} 0 1 = cc in absurd (omega arith)
+numbered_front [] ys t x e = absurd cc
+numbered_front (a ∷ xs) ys zero x e = absurd cc
 numbered_front (a ∷ xs) ys (suc zero) x e = e
 numbered_front (a ∷ xs) ys (suc (suc t)) x e = numbered_front xs ys (suc t) x e
 

@@ -1,5 +1,5 @@
 -- A moved request keeps the narrow counts quiet: a narrow count passes no place that would part its range.
-use Rattle.std.proofs.Common.{◌≡◌, ℕ, zero, suc, Bool, true, false, cond, not, List, [], ◌∷◌, Some, None, Option, sym, refl, ◌∙◌, subst, ap₂, arith}
+use Rattle.std.proofs.Common.{◌≡◌, ℕ, zero, suc, Bool, true, false, cond, not, List, [], ◌∷◌, Some, None, Option, sym, refl, ◌∙◌, subst, ap₂}
 use Rattle.requests.specs.declared.request.Request.{Request}
 use Rattle.requests.specs.declared.request.Request.TheVariants.{Enter, Withdraw, LookUp, Count}
 use Rattle.rules.specs.declared.mode.Mode.{Mode}
@@ -54,14 +54,14 @@ module _ {K T : Type 0} (w : Kinds K T) (law : Lawful w) (rs : List (Request K))
   table_allowed t lo hi Between false true a h = (a, tt)
   table_allowed t lo hi Between false false a h = ((λ n. absurd (h (a n).1 refl refl)), ((λ n. absurd (h (a n).1 refl refl)), tt))
   table_allowed t lo hi From true c a h = (a, tt)
-  table_allowed t lo hi From false c a h = ((λ n. let e = (a n).0 in let z : ◌≡◌ {A = ℕ} 0 1 = cc in absurd (omega arith)), (a, tt))
+  table_allowed t lo hi From false c a h = ((λ n. let e = (a n).0 in absurd cc), (a, tt))
   table_allowed t lo hi Upto b true a h = (a, tt)
-  table_allowed t lo hi Upto b false a h = ((λ n. let e = (a n).0 in let z : ◌≡◌ {A = ℕ} 0 1 = cc in absurd (omega arith)), (a, tt))
+  table_allowed t lo hi Upto b false a h = ((λ n. let e = (a n).0 in absurd cc), (a, tt))
 
   not-parted : (lo hi split : K) → w.le lo hi ≡ false → w.le split lo ≡ false → before w hi split ≡ false → ⊥
   not-parted lo hi split e f g =
       let p = law.transitive lo split hi (law.total split lo f) (not_false (w.le split hi) g) in
-      let z : ◌≡◌ {A = ℕ} 0 1 = cc in absurd (omega arith)
+      absurd cc
 
   count_still : (s : State K T) (t p : ℕ) (lo hi : K) (m : Mode) → Allowed t lo hi m → Still w rs s → Still w rs (count_at w s t p lo hi m)
   count_still s t zero lo hi m a i = shown_still s t lo hi Between s.slot (λ n. (refl, (a n).1)) i

@@ -23,7 +23,7 @@ refused true e f old new = refl
 refused false e f old new = refl
 
 no_request : {X : Type 0} (t : ℕ) (x : X) → numbered [] t ≡ Some x → ⊥
-no_request t x e = let z : ◌≡◌ {A = ℕ} 0 1 = cc in absurd (omega arith)
+no_request t x e = absurd cc
 
 none-given : (t : ℕ) → leb (suc t) 0 ≡ false
 none-given t = grind arith

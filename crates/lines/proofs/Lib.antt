@@ -1,5 +1,5 @@
-pub mod Steps
 pub mod Names
+pub mod Spelled
 pub mod Rows
 pub mod Texts
 pub mod Checks

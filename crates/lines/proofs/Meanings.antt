@@ -1,8 +1,7 @@
 -- What is read of a line is what it means; every call has a line, and no line two forms. Rests on Rows, Texts and Checks.
-use Rattle.std.proofs.Common.{◌≡◌, ℕ, ◌<◌, ◌≤◌, Bool, true, false, leb, List, length, Some, None, Ok, Err, Option, Result, sym, refl, ap, ◌∙◌, subst, inl, inr, arith}
+use Rattle.std.proofs.Common.{◌≡◌, ℕ, ◌≤◌, Bool, true, false, leb, List, length, Some, None, Ok, Err, Option, Result, sym, refl, ap, ◌∙◌, subst, inl, inr, arith}
 use Rattle.octets.specs.Cuts.{pieces}
 use Rattle.keys.specs.declared.refusal.Refusal.{Refusal}
-use Rattle.keys.specs.declared.refusal.Refusal.TheVariants.{NoSuchLine}
 use Rattle.keys.specs.declared.route.Route.{Route}
 use Rattle.requests.specs.declared.request.Request.{Request}
 use Rattle.requests.specs.declared.request.Request.TheVariants.{Enter, Withdraw, LookUp, Count}
@@ -41,15 +40,8 @@ reads-line line = go (leb (length line) 64) (row_form (pieces 32 line)) refl ref
     go : (b : Bool) (o : Option Form) → leb (length line) 64 ≡ b → row_form (pieces 32 line) ≡ o → Reads line (line_call line)
     go false o p q = rw p (inr (refl, λ f w. let s = written-short line f w in grind arith))
     go true None p q =
-        rw (p, q) (inr (refl, λ f w. let e = written-form line f w in let z : ◌≡◌ {A = ℕ} 0 1 = cc in omega arith))
+        rw (p, q) (inr (refl, λ f w. let e = written-form line f w in absurd cc))
     go true (Some f) p q = rw (p, q) (reads-checked line f (form-written line f q) (form_checked f) (form-says f))
-
--- a line that is too long is none, and another is what its words are
-pub long_call : (line : List ℕ) → 64 < length line → Err NoSuchLine ≡ line_call line
-long_call line h = let e : leb (length line) 64 ≡ false = grind arith in rw e
-
-pub short_call : (line : List ℕ) (o : Option Form) → length line ≤ 64 → o ≡ row_form (pieces 32 line) → form_call o ≡ line_call line
-short_call line o h p = let e : leb (length line) 64 ≡ true = grind arith in rw e (ap form_call p)
 
 -- what an answer means that is known to be what the line is
 pub reads-answer : (line : List ℕ) (r : Result (Call Route) Refusal) → r ≡ line_call line → Reads line r

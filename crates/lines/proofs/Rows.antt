@@ -1,5 +1,5 @@
 -- Words that are read as a form are the words of that form, and the other way round. Rests on Names.
-use Rattle.std.proofs.Common.{◌≡◌, ℕ, List, [], ◌∷◌, ◌++◌, Some, None, decimal, Option, refl, ap, ◌∙◌, arith}
+use Rattle.std.proofs.Common.{◌≡◌, ℕ, List, [], ◌∷◌, ◌++◌, Some, None, decimal, Option, refl, ap, ◌∙◌}
 use Rattle.std.specs.Option.{option_map}
 use Rattle.requests.specs.declared.kind.Kind.{Kind}
 use Rattle.requests.specs.declared.kind.Kind.TheVariants as kind
@@ -32,7 +32,7 @@ record From {X Y : Type 0} (f : X → Y) (o : Option X) (y : Y) : Type 0 where
   made : f value ≡ y
 
 mapped_from : {X Y : Type 0} (f : X → Y) (o : Option X) (y : Y) → option_map f o ≡ Some y → From f o y
-mapped_from f None y e = let z : ◌≡◌ {A = ℕ} 0 1 = cc in absurd (omega arith)
+mapped_from f None y e = absurd cc
 mapped_from f (Some x) y e = record { value = x; some = refl; made = cc }
 
 route_words_are : (a b c : List ℕ) (w : RouteWords) → route_words a b c ≡ Some w → Are (a ∷ b ∷ c ∷ []) (route_row w) (ShortRoute w)
@@ -44,11 +44,11 @@ route_words_are a b c w h =
     record { same = rw (p, q, r); short = (number_short a w.entry parts.entry, number_short b w.exit parts.exit) }
 
 route_are : (row : List (List ℕ)) (w : RouteWords) → row_words row ≡ Some w → Are row (route_row w) (ShortRoute w)
-route_are [] w h = let z : ◌≡◌ {A = ℕ} 0 1 = cc in absurd (omega arith)
-route_are (a ∷ []) w h = let z : ◌≡◌ {A = ℕ} 0 1 = cc in absurd (omega arith)
-route_are (a ∷ b ∷ []) w h = let z : ◌≡◌ {A = ℕ} 0 1 = cc in absurd (omega arith)
+route_are [] w h = absurd cc
+route_are (a ∷ []) w h = absurd cc
+route_are (a ∷ b ∷ []) w h = absurd cc
 route_are (a ∷ b ∷ c ∷ []) w h = route_words_are a b c w h
-route_are (a ∷ b ∷ c ∷ d ∷ ds) w h = let z : ◌≡◌ {A = ℕ} 0 1 = cc in absurd (omega arith)
+route_are (a ∷ b ∷ c ∷ d ∷ ds) w h = absurd cc
 
 -- both ends of a count
 record Ends (p q : Option RouteWords) (r : Request RouteWords) : Type 0 where
@@ -59,8 +59,8 @@ record Ends (p q : Option RouteWords) (r : Request RouteWords) : Type 0 where
   made : Count lo hi ≡ r
 
 ends_from : (p q : Option RouteWords) (r : Request RouteWords) → both_ends p q ≡ Some r → Ends p q r
-ends_from None q r h = let z : ◌≡◌ {A = ℕ} 0 1 = cc in absurd (omega arith)
-ends_from (Some lo) None r h = let z : ◌≡◌ {A = ℕ} 0 1 = cc in absurd (omega arith)
+ends_from None q r h = absurd cc
+ends_from (Some lo) None r h = absurd cc
 ends_from (Some lo) (Some hi) r h = record { lo = lo; hi = hi; low = refl; high = refl; made = cc }
 
 -- the words of the keys of a request, which is of that kind
@@ -70,9 +70,9 @@ record Asks (row : List (List ℕ)) (k : Kind) (r : Request RouteWords) : Type 0
   short : ShortRequest r
 
 count_asks : (row : List (List ℕ)) (r : Request RouteWords) → count_in row ≡ Some r → Asks row kind.Count r
-count_asks [] r h = let z : ◌≡◌ {A = ℕ} 0 1 = cc in absurd (omega arith)
-count_asks (a ∷ []) r h = let z : ◌≡◌ {A = ℕ} 0 1 = cc in absurd (omega arith)
-count_asks (a ∷ b ∷ []) r h = let z : ◌≡◌ {A = ℕ} 0 1 = cc in absurd (omega arith)
+count_asks [] r h = absurd cc
+count_asks (a ∷ []) r h = absurd cc
+count_asks (a ∷ b ∷ []) r h = absurd cc
 count_asks (a ∷ b ∷ c ∷ row) r h =
     let e = ends_from (route_words a b c) (row_words row) r h in
     let p = route_words_are a b c e.lo e.low in
@@ -97,11 +97,11 @@ request_asks kind.LookUp row r h =
 request_asks kind.Count row r h = count_asks row r h
 
 asked_are : (row : List (List ℕ)) (r : Request RouteWords) → asked_in row ≡ Some r → Are row (kind_word (kind_of r) ∷ keys_row r) (ShortRequest r)
-asked_are [] r h = let z : ◌≡◌ {A = ℕ} 0 1 = cc in absurd (omega arith)
+asked_are [] r h = absurd cc
 asked_are (w ∷ row) r h = go (kind_in w) refl
   where
     go : (o : Option Kind) → kind_in w ≡ o → Are (w ∷ row) (kind_word (kind_of r) ∷ keys_row r) (ShortRequest r)
-    go None e = let i : None ≡ Some r = rw e at h in let z : ◌≡◌ {A = ℕ} 0 1 = cc in absurd (omega arith)
+    go None e = let i : None ≡ Some r = rw e at h in absurd cc
     go (Some k) e =
         let i : request_in k row ≡ Some r = rw e at h in
         let p = request_asks k row r i in
@@ -109,13 +109,13 @@ asked_are (w ∷ row) r h = go (kind_in w) refl
         record { same = rw (q, p.of_kind) (ap (λ ws. kind_word k ∷ ws) p.same); short = p.short }
 
 number_are : (row : List (List ℕ)) (n : ℕ) → last_number row ≡ Some n → Are row (decimal n ∷ []) (Short n)
-number_are [] n h = let z : ◌≡◌ {A = ℕ} 0 1 = cc in absurd (omega arith)
+number_are [] n h = absurd cc
 number_are (w ∷ []) n h = record { same = ap (λ v. v ∷ []) (number_text w n h); short = number_short w n h }
-number_are (w ∷ v ∷ vs) n h = let z : ◌≡◌ {A = ℕ} 0 1 = cc in absurd (omega arith)
+number_are (w ∷ v ∷ vs) n h = absurd cc
 
 end_are : (row : List (List ℕ)) (f g : Form) → at_end row f ≡ Some g → (row ≡ []) × (f ≡ g)
 end_are [] f g h = (refl, cc)
-end_are (w ∷ ws) f g h = let z : ◌≡◌ {A = ℕ} 0 1 = cc in absurd (omega arith)
+end_are (w ∷ ws) f g h = absurd cc
 
 call_are : (v : Verb) (n : ℕ) (row : List (List ℕ)) (f : Form) → Short n → call_in v n row ≡ Some f → Are (verb_word v ∷ decimal n ∷ row) (line_row f) (ShortForm f)
 call_are verb.Submit n row f s h =
@@ -135,13 +135,13 @@ call_are verb.Collect n row f s h =
 
 -- the words that are read as a form are its words
 pub form_are : (row : List (List ℕ)) (f : Form) → row_form row ≡ Some f → Are row (line_row f) (ShortForm f)
-form_are [] f h = let z : ◌≡◌ {A = ℕ} 0 1 = cc in absurd (omega arith)
-form_are (v ∷ []) f h = let z : ◌≡◌ {A = ℕ} 0 1 = cc in absurd (omega arith)
+form_are [] f h = absurd cc
+form_are (v ∷ []) f h = absurd cc
 form_are (v ∷ n ∷ row) f h = go (verb_in v) (number_in n) refl refl
   where
     go : (o : Option Verb) (p : Option ℕ) → verb_in v ≡ o → number_in n ≡ p → Are (v ∷ n ∷ row) (line_row f) (ShortForm f)
-    go None p d e = let i : None ≡ Some f = rw d at h in let z : ◌≡◌ {A = ℕ} 0 1 = cc in absurd (omega arith)
-    go (Some a) None d e = let i : None ≡ Some f = rw (d, e) at h in let z : ◌≡◌ {A = ℕ} 0 1 = cc in absurd (omega arith)
+    go None p d e = let i : None ≡ Some f = rw d at h in absurd cc
+    go (Some a) None d e = let i : None ≡ Some f = rw (d, e) at h in absurd cc
     go (Some a) (Some b) d e =
         let i : call_in a b row ≡ Some f = rw (d, e) at h in
         let r = call_are a b row f (number_short n b e) i in

@@ -1,8 +1,6 @@
 -- The form that words in a row are: they are read from the front, and none may be left over.
 use Rattle.std.specs.Prelude.{ℕ, List, [], ◌∷◌, Some, None, Option}
 use Rattle.std.specs.Option.{option_map}
-use Rattle.octets.specs.declared.pieces.Pieces.{Pieces}
-use Rattle.octets.specs.Cuts.{pieces_of}
 use Rattle.requests.specs.declared.kind.Kind.{Kind}
 use Rattle.requests.specs.declared.kind.Kind.TheVariants as kind
 use Rattle.requests.specs.declared.request.Request.{Request}
@@ -15,10 +13,6 @@ use Rattle.lines.specs.declared.vocabulary.Verb.{Verb}
 use Rattle.lines.specs.declared.vocabulary.Verb.TheVariants as verb
 use Rattle.lines.specs.Grammar.{Form}
 use Rattle.lines.specs.Vocabulary.{verb_in, kind_in}
-
--- the words that are left of a text
-abbrev pub left : Pieces → List (List ℕ)
-left p = pieces_of p.separator p.rest
 
 -- nothing more, or else nothing
 abbrev pub at_end : {X : Type 0} → List (List ℕ) → X → Option X

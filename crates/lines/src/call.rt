@@ -1,7 +1,7 @@
 // A call as a line gives it, its keys of any kind.
 use requests::Request;
 
-#[derive(Drop)]
+#[derive(Clone, Copy, PartialEq, Eq, Debug, Drop)]
 pub enum Call<K> {
     Submit { station: u32, request: Request<K> },
     // The request is the one followed, by its number.

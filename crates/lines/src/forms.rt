@@ -1,57 +1,35 @@
 // The form that the words of a line are: read from the front, with none left over.
 ghost use Rattle.std.specs.Prelude.{◌≡◌};
 ghost use Rattle.octets.specs.Cuts.{pieces};
-ghost use Rattle.words.specs.Lines.{row_words};
-ghost use Rattle.lines.specs.Forms.{left, at_end, last_number, count_in, request_in, asked_in, call_in, row_form};
+ghost use Rattle.words.specs.Lines.{left};
+ghost use Rattle.lines.specs.Forms.{at_end, last_number, count_in, request_in, asked_in, call_in, row_form};
 
 use super::call::Call;
 use super::vocabulary::{Verb, kind_in, verb_in};
 use octets::Pieces;
 use requests::{Kind, Request};
-use words::{RouteWords, number, route_words};
+use words::{RouteWords, last_route, next_route, number};
 
-// The form, where no word is left.
-fn at_end(mut words: Pieces<'_>, form: Call<RouteWords>) -> Option<Call<RouteWords>>
-    ensures { result ≡ at_end (left words.entry) form }
+// What was read, where no word is left.
+fn at_end<T: Drop>(mut words: Pieces<'_>, read: T) -> Option<T>
+    ensures { result ≡ at_end (left words.entry) read }
 {
-    match words.next() {
-        None => Some(form),
-        Some(_) => None,
-    }
+    words.next().is_none().then_some(read)
 }
 
 // The number that the only word left is.
 fn last_number(mut words: Pieces<'_>) -> Option<u32>
     ensures { result ≡ last_number (left words.entry) }
 {
-    let word = words.next()?;
-    match words.next() {
-        None => number(word),
-        Some(_) => None,
-    }
-}
-
-// The route that the only three words left are.
-fn last_route(mut words: Pieces<'_>) -> Option<RouteWords>
-    ensures { result ≡ row_words (left words.entry) }
-{
-    let entry = words.next()?;
-    let exit = words.next()?;
-    let class = words.next()?;
-    match words.next() {
-        None => route_words(entry, exit, class),
-        Some(_) => None,
-    }
+    let number = number(words.next()?)?;
+    at_end(words, number)
 }
 
 // The count whose two routes are all the words left.
 fn count_in(mut words: Pieces<'_>) -> Option<Request<RouteWords>>
     ensures { result ≡ count_in (left words.entry) }
 {
-    let entry = words.next()?;
-    let exit = words.next()?;
-    let class = words.next()?;
-    let lo = route_words(entry, exit, class)?;
+    let lo = next_route(&mut words)?;
     let hi = last_route(words)?;
     Some(Request::Count(lo, hi))
 }
@@ -61,9 +39,9 @@ fn request_in(kind: Kind, words: Pieces<'_>) -> Option<Request<RouteWords>>
     ensures { result ≡ request_in kind (left words.entry) }
 {
     match kind {
-        Kind::Enter => Some(Request::Enter(last_route(words)?)),
-        Kind::Withdraw => Some(Request::Withdraw(last_route(words)?)),
-        Kind::LookUp => Some(Request::LookUp(last_route(words)?)),
+        Kind::Enter => last_route(words).map(Request::Enter),
+        Kind::Withdraw => last_route(words).map(Request::Withdraw),
+        Kind::LookUp => last_route(words).map(Request::LookUp),
         Kind::Count => count_in(words),
     }
 }

@@ -7,6 +7,7 @@ use keys::{Refusal, Route};
 use requests::Request;
 use words::RouteWords;
 
+// Kept: one match for the one conversion of keys that there is; over a closure the contract says less plainly what comes out.
 fn checked_request(request: Request<RouteWords>) -> Result<Request<Route>, Refusal>
     ensures { result ≡ request_checked request }
 {
@@ -22,16 +23,20 @@ fn checked_request(request: Request<RouteWords>) -> Result<Request<Route>, Refus
     }
 }
 
-pub fn checked(form: Call<RouteWords>) -> Result<Call<Route>, Refusal>
-    ensures { result ≡ form_checked form }
-{
-    match form {
-        Call::Submit { station, request } => {
-            let request = checked_request(request)?;
-            Ok(Call::Submit { station, request })
+impl TryFrom<Call<RouteWords>> for Call<Route> {
+    type Error = Refusal;
+
+    ghost try_from_gives = { λ form r. r ≡ form_checked form };
+
+    fn try_from(form: Call<RouteWords>) -> Result<Self, Refusal> {
+        match form {
+            Call::Submit { station, request } => {
+                let request = checked_request(request)?;
+                Ok(Call::Submit { station, request })
+            }
+            Call::Follow { station, request } => Ok(Call::Follow { station, request }),
+            Call::Carry { station } => Ok(Call::Carry { station }),
+            Call::Collect { station } => Ok(Call::Collect { station }),
         }
-        Call::Follow { station, request } => Ok(Call::Follow { station, request }),
-        Call::Carry { station } => Ok(Call::Carry { station }),
-        Call::Collect { station } => Ok(Call::Collect { station }),
     }
 }

@@ -5,7 +5,6 @@ ghost use Rattle.lines.specs.Meaning.{Reads, EveryCallHasALine, OneForm};
 
 use super::call::Call;
 use super::forms::line_form;
-use super::ranges::checked;
 use keys::{Refusal, Route};
 
 const LONGEST_LINE: usize = 64;
@@ -19,10 +18,8 @@ pub fn read_line(line: &[u8]) -> Result<Call<Route>, Refusal>
     if line.len() > LONGEST_LINE {
         return Err(Refusal::NoSuchLine);
     }
-    match line_form(line) {
-        None => Err(Refusal::NoSuchLine),
-        Some(form) => checked(form),
-    }
+    let form = line_form(line).ok_or(Refusal::NoSuchLine)?;
+    Call::try_from(form)
 }
 
 // Every call whose numbers have at most five digits has a line, and no line is the text of two forms.

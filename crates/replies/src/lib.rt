@@ -1,7 +1,6 @@
 // Answers of the console as text, written to the front of a lent row of bytes.
 #![tactic(auto)]
 
-mod placing;
 mod reply;
 mod writing;
 

@@ -4,7 +4,7 @@ use requests::Answer;
 use rules::Carried;
 use tallies::Number;
 
-#[derive(Drop)]
+#[derive(Clone, Copy, PartialEq, Eq, Debug)]
 pub enum Reply {
     // A submitted request's number.
     Submitted { number: u16 },

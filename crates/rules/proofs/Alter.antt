@@ -1,11 +1,12 @@
 -- A change at one place of a tree, and what it leaves of the whole. Rests on Insides.
 use Rattle.std.proofs.Common.{◌≡◌, ℕ, suc, ◌<◌, ◌≤◌, Bool, true, false, cond, ◌||◌, eqb, ◌⊎◌, List, length, Some, Option, sym, refl, ap, ◌∙◌, subst, inl, inr, ⊎_elim, true≢false, arith}
+use Rattle.std.proofs.lemmas.Bool.{false_from_ne_true, or_from, or_left, or_right, or_parts}
 use Rattle.requests.specs.declared.request.Request.{Request}
 use Rattle.requests.specs.declared.request.Request.TheVariants.{Count}
 use Rattle.rules.specs.Kinds.{Kinds, Lawful, before}
 use Rattle.rules.specs.States.{Place, Waiter}
 use Rattle.rules.specs.Queues.{numbered, stands}
-use Rattle.rules.proofs.Bools.{or_left, or_right, or_first, or_second, or_neither, false_unless, bool_map}
+use Rattle.rules.proofs.Bools.{bool_map}
 use Rattle.rules.proofs.Trees.{Tree, bare, leaf, node, slot_of, inside, Drawn, drawn_frame}
 use Rattle.rules.proofs.Goods.{below, Over, left_of, right_of, Good}
 use Rattle.rules.proofs.Later.{left_in, right_in, lined_below}
@@ -81,9 +82,9 @@ module _ {K T : Type 0} (w : Kinds K T) (l : Lawful w) (rs : List (Request K)) (
       low = ch.low;
       far = λ j no. ch.far j (λ m. no (m.0, m.1, left_in w R s m.0 m.2));
       out = λ j h.
-          let rest = or_second (eqb j i) (inside j c || inside j b) h in
-          let o = ch.out j (or_first (inside j c) (inside j b) rest) in
-          (or_neither (eqb j i) (inside j a || inside j b) (or_first (eqb j i) (inside j c || inside j b) h) (or_neither (inside j a) (inside j b) o.0 (or_second (inside j c) (inside j b) rest)), o.1);
+          let rest = (or_parts (eqb j i) (inside j c || inside j b) h).1 in
+          let o = ch.out j (or_parts (inside j c) (inside j b) rest).0 in
+          (or_from (eqb j i) (inside j a || inside j b) (or_parts (eqb j i) (inside j c || inside j b) h).0 (or_from (inside j a) (inside j b) o.0 (or_parts (inside j c) (inside j b) rest).1), o.1);
       waits = λ j no. ap (λ v. stands j q || (v || waiting j b)) (ch.waits j no);
       mover = ⊎_elim (λ h. inl (or_right (stands t q) (waiting t c || waiting t b) (or_left (waiting t c) (waiting t b) h))) (λ h. inr h) ch.mover;
       pends = λ j lo hi num. first_part w l (counted j) (new-counted j) (queue_share w rs j lo hi R q) (pending w rs j lo hi (left_of w R s) a) (pending w rs j lo hi (left_of w R s) c) (pending w rs j lo hi (right_of w R s) b) (ch.pends j lo hi num);
@@ -101,9 +102,9 @@ module _ {K T : Type 0} (w : Kinds K T) (l : Lawful w) (rs : List (Request K)) (
       low = ch.low;
       far = λ j no. ch.far j (λ m. no (m.0, m.1, right_in w R s m.0 m.2));
       out = λ j h.
-          let rest = or_second (eqb j i) (inside j a || inside j c) h in
-          let o = ch.out j (or_second (inside j a) (inside j c) rest) in
-          (or_neither (eqb j i) (inside j a || inside j b) (or_first (eqb j i) (inside j a || inside j c) h) (or_neither (inside j a) (inside j b) (or_first (inside j a) (inside j c) rest) o.0), o.1);
+          let rest = (or_parts (eqb j i) (inside j a || inside j c) h).1 in
+          let o = ch.out j (or_parts (inside j a) (inside j c) rest).1 in
+          (or_from (eqb j i) (inside j a || inside j b) (or_parts (eqb j i) (inside j a || inside j c) h).0 (or_from (inside j a) (inside j b) (or_parts (inside j a) (inside j c) rest).0 o.0), o.1);
       waits = λ j no. ap (λ v. stands j q || (waiting j a || v)) (ch.waits j no);
       mover = ⊎_elim (λ h. inl (or_right (stands t q) (waiting t a || waiting t c) (or_right (waiting t a) (waiting t c) h))) (λ h. inr h) ch.mover;
       pends = λ j lo hi num. second_part w l (counted j) (new-counted j) (queue_share w rs j lo hi R q) (pending w rs j lo hi (left_of w R s) a) (pending w rs j lo hi (right_of w R s) b) (pending w rs j lo hi (right_of w R s) c) (ch.pends j lo hi num);
@@ -129,7 +130,7 @@ module _ {K T : Type 0} (w : Kinds K T) (l : Lawful w) (rs : List (Request K)) (
         go one two false f =
             inside_cases w rs p i s tally q a b e
             (λ h. let z : eqb i p ≡ true = grind arith in absurd (true≢false (sym z ∙ f)))
-            (λ h. let lone : inside p b ≡ false = false_unless (inside p b) (λ k. makers_apart w rs R s p (inside_maker w rs (left_of w R s) (below q now) a p gd.2 h) (inside_maker w rs (right_of w R s) (below q now) b p gd.3 k)) in
+            (λ h. let lone : inside p b ≡ false = false_from_ne_true (inside p b) (λ k. makers_apart w rs R s p (inside_maker w rs (left_of w R s) (below q now) a p gd.2 h) (inside_maker w rs (right_of w R s) (below q now) b p gd.3 k)) in
             rw (f, alter_outside p g b lone) (in_left R now i s tally q a b (alter p g a) gd d (inside_over w rs (left_of w R s) (below q now) a i p gd.2 gd.1.0 h) (one h)))
-            (λ h. let lone : inside p a ≡ false = false_unless (inside p a) (λ k. makers_apart w rs R s p (inside_maker w rs (left_of w R s) (below q now) a p gd.2 k) (inside_maker w rs (right_of w R s) (below q now) b p gd.3 h)) in
+            (λ h. let lone : inside p a ≡ false = false_from_ne_true (inside p a) (λ k. makers_apart w rs R s p (inside_maker w rs (left_of w R s) (below q now) a p gd.2 k) (inside_maker w rs (right_of w R s) (below q now) b p gd.3 h)) in
             rw (f, alter_outside p g a lone) (in_right R now i s tally q a b (alter p g b) gd d (inside_over w rs (right_of w R s) (below q now) b i p gd.3 gd.1.1 h) (two h)))

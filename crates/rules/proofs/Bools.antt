@@ -1,5 +1,5 @@
 -- Small facts about truth values that searches in large contexts do not reach. Assumes nothing.
-use Rattle.std.proofs.Common.{◌≡◌, Bool, true, false, cond, not, ◌&&◌, ◌||◌, sym, refl, true≢false}
+use Rattle.std.proofs.Common.{◌≡◌, Bool, true, false, cond, not, ◌&&◌, ◌||◌, refl}
 
 pub bool_case : (b : Bool) (P : Bool → Type 0) → P true → P false → P b
 bool_case true P p q = p
@@ -13,14 +13,6 @@ pub or_cases : {P : Type 0} (a b : Bool) → (a || b) ≡ true → (a ≡ true �
 or_cases true b e f g = f refl
 or_cases false b e f g = g e
 
-pub or_left : (a b : Bool) → a ≡ true → (a || b) ≡ true
-or_left true b e = refl
-or_left false b e = absurd (true≢false (sym e))
-
-pub or_right : (a b : Bool) → b ≡ true → (a || b) ≡ true
-or_right true b e = refl
-or_right false b e = e
-
 -- either of two facts carried over, by a truth value
 pub bool_map : {P P' Q Q' : Type 0} (b : Bool) → (P → P') → (Q → Q') → cond b P Q → cond b P' Q'
 bool_map true f g h = f h
@@ -30,29 +22,13 @@ pub or_false : (b : Bool) → (b || false) ≡ b
 or_false true = refl
 or_false false = refl
 
-pub or_first : (a b : Bool) → (a || b) ≡ false → a ≡ false
-or_first true b e = e
-or_first false b e = refl
-
-pub or_second : (a b : Bool) → (a || b) ≡ false → b ≡ false
-or_second true b e = absurd (true≢false e)
-or_second false b e = e
-
-pub or_neither : (a b : Bool) → a ≡ false → b ≡ false → (a || b) ≡ false
-or_neither true b p q = p
-or_neither false b p q = q
-
-pub and_first : (a b : Bool) → (a && b) ≡ true → a ≡ true
-and_first true b e = refl
-and_first false b e = e
-
-pub and_second : (a b : Bool) → (a && b) ≡ true → b ≡ true
-and_second true b e = e
-and_second false b e = absurd (true≢false (sym e))
-
 pub not_and : (b : Bool) → (not b && b) ≡ false
 not_and true = refl
 not_and false = refl
+
+pub or_right : (a b : Bool) → b ≡ true → (a || b) ≡ true
+or_right true b e = refl
+or_right false b e = e
 
 -- what cannot be true is false
 pub false_unless : (b : Bool) → (b ≡ true → ⊥) → b ≡ false

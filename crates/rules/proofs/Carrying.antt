@@ -23,7 +23,7 @@ use Rattle.rules.proofs.Deeds.{wants, undecided, Lapsed, Seeks, Nears, Deed, lap
 
 -- no note is no walk
 still_none : (t p : ℕ) → note.None ≡ note.Walk t p → ⊥
-still_none t p e = let z : ◌≡◌ {A = ℕ} 0 1 = cc in omega arith
+still_none t p e = absurd cc
 
 module _ {K T : Type 0} (w : Kinds K T) (step : Stepper w) (rs : List (Request K)) (s : State K T) (x : Tree K T) (time : ℕ) (h : Holds w rs s x time) (n : ℕ) where
   -- the invariant of the state that a carry by a note leaves, and its deed

@@ -1,6 +1,6 @@
 -- A request moves at a place of the tree: the invariant holds of the state after it. Rests on Locals, Alter, Unmade and Tames.
 use Rattle.std.proofs.Common.{◌≡◌, ℕ, suc, ◌<◌, ◌≤◌, Bool, true, false, cond, eqb, List, [], ◌∷◌, ◌++◌, length, Some, None, Option, sym, refl, ap, ◌∙◌, subst, inl, inr, ⊎_elim, true≢false, arith}
-use Rattle.std.proofs.lemmas.Bool.{cases_eq}
+use Rattle.std.proofs.lemmas.Bool.{cases_eq, ne_eqb, or_left}
 use Rattle.requests.specs.declared.request.Request.{Request}
 use Rattle.requests.specs.declared.request.Request.TheVariants.{Enter, Withdraw, LookUp, Count}
 use Rattle.rules.specs.declared.mode.Mode.{Mode}
@@ -11,14 +11,13 @@ use Rattle.rules.specs.Queues.{numbered, stands, heads, behind}
 use Rattle.rules.specs.Changes.{with_queue, with_place}
 use Rattle.rules.specs.Moves.{Step, show, add, slot_on, with_slot_on, side_of, with_tally, is_present, slot_for, shown, stepped, stepped_all, count_steps, moved, enter_at, withdraw_at, acted}
 use Rattle.rules.specs.Carries.{sought}
-use Rattle.rules.proofs.Bools.{or_left}
 use Rattle.rules.proofs.Befores.{was}
 use Rattle.rules.proofs.Trees.{Tree, node, inside, Drawn}
 use Rattle.rules.proofs.Goods.{WaiterFits, Good}
 use Rattle.rules.proofs.Pairs.{moved_node}
 use Rattle.rules.proofs.Pends.{waiting}
 use Rattle.rules.proofs.Alter.{alter, Changed, altered}
-use Rattle.rules.proofs.Puts.{put_other, apart_eqb}
+use Rattle.rules.proofs.Puts.{put_other}
 use Rattle.rules.proofs.Locals.{Finishes, Leaves, enter_leaves, withdraw_leaves, count-leaves}
 use Rattle.rules.proofs.Meets.{Rest}
 use Rattle.rules.proofs.Tames.{Tame, tame_acted, heads_grown}
@@ -180,7 +179,7 @@ module _ {K T : Type 0} (w : Kinds K T) (l : Lawful w) (s : State K T) (x : Tree
       (λ waits. absurd (true≢false (sym waits ∙ ap (λ j. waiting j y) (sym same) ∙ out)))
       (λ done. subst (λ j. Bears w s.requests s' j r₁) (sym same) (subst (Bears w s.requests s' t) is (finishes_bears w s' s.requests t r tame.rest.requests done)))
       change.mover)
-      (λ differs. bears_kept w s.requests s s' i r₁ (tame.answers i (apart_eqb i t differs)) (h.answers i r₁ asked lt (sym (change.waits i differs) ∙ out)))
+      (λ differs. bears_kept w s.requests s s' i r₁ (tame.answers i (ne_eqb i t differs)) (h.answers i r₁ asked lt (sym (change.waits i differs) ∙ out)))
       (cases_eq i t)
 
   descended : Holds w s.requests s' y time
@@ -197,7 +196,7 @@ module _ {K T : Type 0} (w : Kinds K T) (l : Lawful w) (s : State K T) (x : Tree
     unasked = λ i over. ap (λ f. f i) tame.rest.decision ∙ h.unasked i over;
     answers = bears;
     counts = λ i lo hi asked lt. change.pends i lo hi asked ∙ h.counts i lo hi asked lt;
-    uncounted = λ i late. tame.counted i (apart_eqb i t (λ same. omega (arith, passed))) ∙ h.uncounted i late;
+    uncounted = λ i late. tame.counted i (ne_eqb i t (λ same. omega (arith, passed))) ∙ h.uncounted i late;
     walks = λ n i p₁ noted undone.
         let old = h.walks n i p₁ (sym (ap (λ f. (f n).note) tame.rest.desk) ∙ noted) (sym (ap (λ f. f i) tame.rest.decision) ∙ undone) in
         record { head = old.head; request = old.request; key = old.key; asked = old.asked; seeks = old.seeks; way = change.ways old.key p₁ old.way };
@@ -209,7 +208,7 @@ module _ {K T : Type 0} (w : Kinds K T) (l : Lawful w) (s : State K T) (x : Tree
     rest = rest;
     stay = λ i r₁ no on.
         let grown = tame.grown i in
-        let same = put_other s.queue (suc p) (behind (s.queue (suc p))) i (apart_eqb i (suc p) no) in
+        let same = put_other s.queue (suc p) (behind (s.queue (suc p))) i (ne_eqb i (suc p) no) in
         ap (heads r₁) (grown.1 ∙ ap (λ g. g ++ grown.0) same) ∙ heads_grown r₁ (s.queue i) grown.0 on;
     waits = change.waits;
     down = inl (refl, falls_moved w s.requests s.place s.queue (suc p) r e q line (Everywhere w s.requests) time x h.good h.drawn hangs);

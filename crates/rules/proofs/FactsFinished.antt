@@ -1,6 +1,6 @@
 -- A finished request stays finished and keeps its answer, whatever is called. Rests on Runs and Finals.
 use Rattle.std.proofs.Common.{◌≡◌, ℕ, zero, suc, ◌<◌, true, false, eqb, ◌⊎◌, List, [], ◌∷◌, ◌++◌, length, Some, sym, ap, ◌∙◌, inl, inr, ⊎_elim, true≢false, arith}
-use Rattle.std.proofs.lemmas.Bool.{cases_Bool}
+use Rattle.std.proofs.lemmas.Bool.{cases_Bool, or_left}
 use Rattle.requests.specs.declared.request.Request.{Request}
 use Rattle.rules.specs.Kinds.{Kinds, Lawful}
 use Rattle.rules.specs.Plain.{answered, set_before}
@@ -8,7 +8,6 @@ use Rattle.rules.specs.States.{State, Waiter}
 use Rattle.rules.specs.Queues.{numbered, stands, heads, waits, finished}
 use Rattle.rules.specs.Calls.{caller, after}
 use Rattle.rules.specs.Facts.{FinishedStays}
-use Rattle.rules.proofs.Bools.{or_left}
 use Rattle.rules.proofs.Times.{numbered_within, numbered_append}
 use Rattle.rules.proofs.Befores.{before_append}
 use Rattle.rules.proofs.Trees.{Tree}

@@ -33,8 +33,8 @@ turn-rises lo (e ∷ q) hi d = (turn_over e.number (suc lo) q hi (omega (arith, 
 module _ {K T : Type 0} where
   -- a slot leads to the place on top of its tree
   over_leads : (p q : ℕ) (x : Tree K T) → Over p x → slot_of x ≡ leads q → p < q
-  over_leads p q bare o e = let z : ◌≡◌ {A = ℕ} 0 1 = cc in absurd (omega arith)
-  over_leads p q (leaf k) o e = let z : ◌≡◌ {A = ℕ} 0 1 = cc in absurd (omega arith)
+  over_leads p q bare o e = absurd cc
+  over_leads p q (leaf k) o e = absurd cc
   over_leads p q (node f s t r a b) o e = let same : f ≡ q = cc in omega arith
 
 module _ {K T : Type 0} (w : Kinds K T) (rs : List (Request K)) where

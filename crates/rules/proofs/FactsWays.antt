@@ -1,6 +1,6 @@
 -- The way of a key down the tree: a request waits only on the ways of the keys that it goes by, on each at one place. Rests on Standings and Visits.
 use Rattle.std.proofs.Common.{◌≡◌, ℕ, Bool, true, false, cond, not, ◌||◌, eqb, List, [], ◌∷◌, Some, None, Option, sym, refl, ap, ◌∙◌, subst, true≢false}
-use Rattle.std.proofs.lemmas.Bool.{eq-eqb}
+use Rattle.std.proofs.lemmas.Bool.{eq-eqb, eqb-true, or_left, or_right}
 use Rattle.requests.specs.declared.request.Request.{Request}
 use Rattle.requests.specs.declared.request.Request.TheVariants.{Enter, Withdraw, LookUp, Count}
 use Rattle.rules.specs.declared.mode.Mode.{Mode}
@@ -8,13 +8,12 @@ use Rattle.rules.specs.declared.mode.Mode.TheVariants.{Between, From, Upto}
 use Rattle.rules.specs.Kinds.{Kinds, before}
 use Rattle.rules.specs.States.{Place, Waiter}
 use Rattle.rules.specs.Queues.{numbered, stands}
-use Rattle.rules.proofs.Bools.{or_cases, or_left, or_right}
+use Rattle.rules.proofs.Bools.{or_cases}
 use Rattle.rules.proofs.Trees.{Tree, bare, leaf, node, inside, Drawn}
 use Rattle.rules.proofs.Goods.{below, left_of, right_of, WaiterFits, QueueFits, Good}
 use Rattle.rules.proofs.Later.{left_in, left_side, right_in, right_side}
 use Rattle.rules.proofs.Insides.{inside_cases}
 use Rattle.rules.proofs.Pends.{waiting}
-use Rattle.rules.proofs.Puts.{eqb_eq}
 use Rattle.rules.proofs.Visits.{not-above}
 use Rattle.rules.proofs.Standings.{drawn-waits}
 
@@ -46,7 +45,7 @@ module _ {K T : Type 0} (w : Kinds K T) (rs : List (Request K)) where
   waits-here R (e ∷ q) i r num f h =
       let rest = waits-here R q i r num f.1 in
       or_cases (eqb e.number i) (stands i q) h
-      (λ here. waiter-here R e.number e.mode r (subst (WaiterFits w rs R e.number e.mode) (ap (numbered rs) (eqb_eq e.number i here) ∙ num) f.0))
+      (λ here. waiter-here R e.number e.mode r (subst (WaiterFits w rs R e.number e.mode) (ap (numbered rs) (eqb-true e.number i here) ∙ num) f.0))
       rest
 
   -- one who waits in a queue is a request that was submitted
@@ -55,7 +54,7 @@ module _ {K T : Type 0} (w : Kinds K T) (rs : List (Request K)) where
   asked_here R (e ∷ q) i f h =
       let rest = asked_here R q i f.1 in
       or_cases (eqb e.number i) (stands i q) h
-      (λ here. known (numbered rs i) refl (subst (λ j. WaiterFits w rs R e.number e.mode (numbered rs j)) (eqb_eq e.number i here) f.0))
+      (λ here. known (numbered rs i) refl (subst (λ j. WaiterFits w rs R e.number e.mode (numbered rs j)) (eqb-true e.number i here) f.0))
       rest
     where
       known : (o : Option (Request K)) → numbered rs i ≡ o → WaiterFits w rs R e.number e.mode o → (r : Request K) × (numbered rs i ≡ Some r)
@@ -110,7 +109,7 @@ module _ {K T : Type 0} (w : Kinds K T) (rs : List (Request K)) where
         let two = way_once (right_of w R s) (below l now) b i k p q g.3 d.3 in
         or_cases (eqb p m) (cond (before w k s) (on_way k p a) (on_way k p b)) e
         (λ u. or_cases (eqb q m) (cond (before w k s) (on_way k q a) (on_way k q b)) f
-        (λ v. eqb_eq p m u ∙ sym (eqb_eq q m v))
+        (λ v. eqb-true p m u ∙ sym (eqb-true q m v))
         (λ v. absurd (not-both p u hp (lower q hq (before w k s) v))))
         (λ u. or_cases (eqb q m) (cond (before w k s) (on_way k q a) (on_way k q b)) f
         (λ v. absurd (not-both q v hq (lower p hp (before w k s) u)))
@@ -123,7 +122,7 @@ module _ {K T : Type 0} (w : Kinds K T) (rs : List (Request K)) where
 
         not-both : (j : ℕ) → eqb j m ≡ true → stands i (queue j) ≡ true → (waiting i a || waiting i b) ≡ true → ⊥
         not-both j u h v =
-            true≢false (sym h ∙ ap (λ n. stands i (queue n)) (eqb_eq j m u) ∙ ap (stands i) d.1 ∙ not-above w rs R now m s t l a b i g v)
+            true≢false (sym h ∙ ap (λ n. stands i (queue n)) (eqb-true j m u) ∙ ap (stands i) d.1 ∙ not-above w rs R now m s t l a b i g v)
 
         same : (on_way k p a ≡ true → on_way k q a ≡ true → stands i (queue p) ≡ true → stands i (queue q) ≡ true → p ≡ q)
             → (on_way k p b ≡ true → on_way k q b ≡ true → stands i (queue p) ≡ true → stands i (queue q) ≡ true → p ≡ q)

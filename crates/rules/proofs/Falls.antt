@@ -1,6 +1,6 @@
 -- A move leaves every other request no more places to come to, and the one that moves fewer. Rests on Visits and Alter.
 use Rattle.std.proofs.Common.{◌≡◌, ℕ, suc, ◌+◌, ◌<◌, ◌≤◌, Bool, true, false, cond, ◌||◌, eqb, ltb, leb, List, [], ◌∷◌, ◌++◌, Option, sym, refl, ap, ◌∙◌, subst, ⊎_elim, true≢false, arith}
-use Rattle.std.proofs.lemmas.Bool.{eqb-true, eq-eqb, ne_eqb, le-leb, lt-leb, cases_lt}
+use Rattle.std.proofs.lemmas.Bool.{eqb-true, eq-eqb, ne_eqb, le-leb, lt-leb, cases_lt, false_from_ne_true, or_left, or_right}
 use Rattle.requests.specs.declared.request.Request.{Request}
 use Rattle.requests.specs.declared.request.Request.TheVariants.{Enter, Withdraw, LookUp, Count}
 use Rattle.rules.specs.declared.mode.Mode.{Mode}
@@ -9,7 +9,7 @@ use Rattle.rules.specs.Kinds.{Kinds, before}
 use Rattle.rules.specs.States.{Place, Waiter}
 use Rattle.rules.specs.Queues.{stands}
 use Rattle.rules.specs.Moves.{count_steps}
-use Rattle.rules.proofs.Bools.{or_left, or_right, or_false, false_unless}
+use Rattle.rules.proofs.Bools.{or_false}
 use Rattle.rules.proofs.Trees.{Tree, bare, leaf, node, inside, Drawn}
 use Rattle.rules.proofs.Goods.{below, Over, left_of, right_of, Good}
 use Rattle.rules.proofs.Later.{lined_below}
@@ -161,9 +161,9 @@ module _ {K T : Type 0} (w : Kinds K T) (rs : List (Request K)) where
         go one two false f =
             inside_cases w rs p i s t q a b h
             (λ u. absurd (true≢false (sym (eq-eqb i p (sym u)) ∙ f)))
-            (λ u. let lone : inside p b ≡ false = false_unless (inside p b) (λ v. makers_apart w rs R s p (inside_maker w rs (left_of w R s) (below q now) a p g.2 u) (inside_maker w rs (right_of w R s) (below q now) b p g.3 v)) in
+            (λ u. let lone : inside p b ≡ false = false_from_ne_true (inside p b) (λ v. makers_apart w rs R s p (inside_maker w rs (left_of w R s) (below q now) a p g.2 u) (inside_maker w rs (right_of w R s) (below q now) b p g.3 v)) in
             rw (f, alter_outside p (moved_node w r) b lone) (falls_left e.number R now i s t q a b (alter p (moved_node w r) a) g (one u)))
-            (λ u. let lone : inside p a ≡ false = false_unless (inside p a) (λ v. makers_apart w rs R s p (inside_maker w rs (left_of w R s) (below q now) a p g.2 v) (inside_maker w rs (right_of w R s) (below q now) b p g.3 u)) in
+            (λ u. let lone : inside p a ≡ false = false_from_ne_true (inside p a) (λ v. makers_apart w rs R s p (inside_maker w rs (left_of w R s) (below q now) a p g.2 v) (inside_maker w rs (right_of w R s) (below q now) b p g.3 u)) in
             rw (f, alter_outside p (moved_node w r) a lone) (falls_right e.number R now i s t q a b (alter p (moved_node w r) b) g (two u)))
 
   -- the sums of what is to reach and what is not made, in a good tree and what became of it

@@ -1,6 +1,6 @@
 -- Finished requests: where they do not wait, and the answers that they bear. Rests on Holds and Unmade.
 use Rattle.std.proofs.Common.{◌≡◌, ℕ, zero, suc, ◌<◌, ◌≤◌, Bool, true, false, cond, not, ◌||◌, eqb, ◌⊎◌, List, [], ◌∷◌, is_some, Some, None, Option, sym, refl, ap, ◌∙◌, inl, inr, ⊎_elim, true≢false, arith}
-use Rattle.std.proofs.lemmas.Bool.{cases_lt, cases_eq}
+use Rattle.std.proofs.lemmas.Bool.{cases_lt, cases_eq, false_from_ne_true, or_left, or_right}
 use Rattle.requests.specs.declared.answer.Answer.TheVariants.{Counted}
 use Rattle.requests.specs.declared.request.Request.{Request}
 use Rattle.requests.specs.declared.request.Request.TheVariants.{Enter, Withdraw, LookUp, Count}
@@ -9,7 +9,6 @@ use Rattle.rules.specs.Plain.{answered, set_before}
 use Rattle.rules.specs.States.{State, Place, Waiter}
 use Rattle.rules.specs.Queues.{numbered, lowest, stands, given, waits, finished, bears}
 use Rattle.rules.specs.Laws.{AnswersArePlain}
-use Rattle.rules.proofs.Bools.{or_left, or_right, false_unless}
 use Rattle.rules.proofs.Weights.{neutral-right}
 use Rattle.rules.proofs.Times.{numbered_within}
 use Rattle.rules.proofs.Trees.{Tree, bare, leaf, node, inside, Drawn}
@@ -68,7 +67,7 @@ module _ {K T : Type 0} (w : Kinds K T) (l : Lawful w) (s : State K T) (x : Tree
   pub finished_out : (t : ℕ) → t ≤ given s → finished s t ≡ true → (t < time) × (waiting t x ≡ false)
   finished_out t le done = (
     ⊎_elim (λ lt. lt) (λ ge. absurd (true≢false (sym done ∙ unfinished t 0 (omega arith) (in_turn-stands time (s.queue 0) (suc (given s)) t h.gate ge (omega arith))))) (cases_lt t time),
-    false_unless (waiting t x) (λ e.
+    false_from_ne_true (waiting t x) (λ e.
         let at = waiting_where s.place s.queue x t h.drawn e in
         let made = inside_maker w s.requests (Everywhere w s.requests) time x at.0 h.good at.1 in
         let known = numbered_within s.requests at.0 (Enter made.0) made.1 in

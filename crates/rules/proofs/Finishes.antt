@@ -1,11 +1,10 @@
 -- A request is finished exactly if it has no visit left, and where an unfinished one waits the head comes no later. Rests on Standings, Finals and Visits.
 use Rattle.std.proofs.Common.{◌≡◌, ℕ, zero, suc, ◌+◌, ◌<◌, ◌≤◌, Bool, true, false, cond, not, List, [], ◌∷◌, length, is_some, Some, None, Option, sym, refl, ap, ◌∙◌, subst, ⊎_elim, true≢false, arith}
-use Rattle.std.proofs.lemmas.Bool.{eq-eqb, le-leb, lt-leb, cases_lt, cases_Bool}
+use Rattle.std.proofs.lemmas.Bool.{eq-eqb, le-leb, lt-leb, cases_lt, cases_Bool, false_from_ne_true}
 use Rattle.requests.specs.declared.request.Request.{Request}
 use Rattle.rules.specs.Kinds.{Kinds}
 use Rattle.rules.specs.States.{State, Waiter}
 use Rattle.rules.specs.Queues.{stands, heads, head_of, given, waits, waiting_place, finished}
-use Rattle.rules.proofs.Bools.{false_unless}
 use Rattle.rules.proofs.Trees.{Tree, inside}
 use Rattle.rules.proofs.Goods.{Lined}
 use Rattle.rules.proofs.Pends.{waiting}
@@ -74,7 +73,7 @@ module _ {K T : Type 0} (w : Kinds K T) (rs : List (Request K)) (s : State K T) 
   pub finished-visits : (t : ℕ) → t ≤ length rs → finished s t ≡ true → visits time t x ≡ 0
   finished-visits t le e =
       ⊎_elim
-      (λ (lt : t < time). visits_tree t lt false (false_unless (waiting t x) (λ v.
+      (λ (lt : t < time). visits_tree t lt false (false_from_ne_true (waiting t x) (λ v.
       let u = waiting_where s.place s.queue x t h.drawn v in
       let b = inside_before w rs (Everywhere w rs) time x u.0 h.good u.1 in
       let end = in_turn_end time (s.queue 0) (suc (length rs)) h.gate in

@@ -1,6 +1,6 @@
 -- A request moves from the gate into the tree, or is finished there: the invariant holds after it. Rests on Descents.
 use Rattle.std.proofs.Common.{◌≡◌, ℕ, suc, ◌<◌, ◌≤◌, true, false, eqb, List, [], ◌∷◌, ◌++◌, length, is_some, Some, None, sym, refl, ap, ◌∙◌, subst, inl, inr, ⊎_elim, true≢false, arith}
-use Rattle.std.proofs.lemmas.Bool.{cases_eq}
+use Rattle.std.proofs.lemmas.Bool.{cases_eq, ne_eqb}
 use Rattle.requests.specs.declared.request.Request.{Request}
 use Rattle.requests.specs.declared.request.Request.TheVariants.{Count}
 use Rattle.rules.specs.Kinds.{Kinds, Lawful}
@@ -13,7 +13,7 @@ use Rattle.rules.specs.Carries.{sought}
 use Rattle.rules.proofs.Trees.{Tree, slot_of, inside, Drawn}
 use Rattle.rules.proofs.Goods.{Over, Good}
 use Rattle.rules.proofs.Pends.{waiting, pending}
-use Rattle.rules.proofs.Puts.{put_other, apart_eqb}
+use Rattle.rules.proofs.Puts.{put_other}
 use Rattle.rules.proofs.Tames.{Tame, tame_acted, heads_grown}
 use Rattle.rules.proofs.Falls.{Stays}
 use Rattle.rules.proofs.Holds.{InTurn, Everywhere, Bears, Holds}
@@ -57,7 +57,7 @@ module _ {K T : Type 0} (w : Kinds K T) (l : Lawful w) (s : State K T) (x y : Tr
   tame = tame_acted w e.number (with_queue s 0 (behind (s.queue 0))) 0 e.mode r
 
   away : (i : ℕ) → (i ≡ time → ⊥) → eqb i e.number ≡ false
-  away i other = apart_eqb i e.number (λ same. other (same ∙ first))
+  away i other = ne_eqb i e.number (λ same. other (same ∙ first))
 
   decided_now : (k : K) → sought r ≡ Some k → s.decision time ≡ None → ⊥
   decided_now k seeks none = true≢false (sym (done k seeks) ∙ ap is_some (ap s.decision first ∙ none))
@@ -112,7 +112,7 @@ module _ {K T : Type 0} (w : Kinds K T) (l : Lawful w) (s : State K T) (x y : Tr
     rest = record { capacity = tame.rest.capacity; requests = tame.rest.requests; asker = tame.rest.asker; decision = tame.rest.decision; desk = tame.rest.desk };
     stay = λ i r₁ no on.
         let grown = tame.grown i in
-        let same = put_other s.queue 0 (behind (s.queue 0)) i (apart_eqb i 0 no) in
+        let same = put_other s.queue 0 (behind (s.queue 0)) i (ne_eqb i 0 no) in
         ap (heads r₁) (grown.1 ∙ ap (λ g. g ++ grown.0) same) ∙ heads_grown r₁ (s.queue i) grown.0 on;
     waits = λ i no. through.waits i (λ same. no (same ∙ sym first));
     down = inr (refl, first, refl, λ i no. through.stays i (λ same. no (same ∙ sym first)));

@@ -1,16 +1,15 @@
 -- A place of which one child has changed: what is drawn anew, and what is kept. Rests on Alter and Puts.
 use Rattle.std.proofs.Common.{◌≡◌, ℕ, ◌<◌, Bool, true, false, ◌||◌, eqb, List, Some, Option, sym, ap, ◌∙◌, true≢false, arith}
+use Rattle.std.proofs.lemmas.Bool.{false_from_ne_true, ne_eqb, or_left, or_parts}
 use Rattle.requests.specs.declared.request.Request.{Request}
 use Rattle.rules.specs.Kinds.{Kinds}
 use Rattle.rules.specs.States.{Place, Waiter}
 use Rattle.rules.specs.Queues.{numbered}
 use Rattle.rules.specs.Moves.{Side, on_left, on_right, with_slot_on}
-use Rattle.rules.proofs.Bools.{or_left, or_first, or_second, false_unless}
 use Rattle.rules.proofs.Trees.{Tree, bare, leaf, node, slot_of, inside, drawn_place, Drawn, drawn_frame}
 use Rattle.rules.proofs.Goods.{below, left_of, right_of, Good}
 use Rattle.rules.proofs.Later.{left_in, right_in}
 use Rattle.rules.proofs.Insides.{Maker, inside_maker, inside_over, makers_apart}
-use Rattle.rules.proofs.Puts.{apart_eqb}
 
 module _ {K T : Type 0} where
   -- whether a number is that of a tree's top place
@@ -52,18 +51,18 @@ module _ {K T : Type 0} (w : Kinds K T) (rs : List (Request K)) (pl pl' : ℕ �
       → DrawnAnew p R (node p s t q c d)
   anew p R now s t q c d g place-p queue-p own-c own-d kept = record {
     drawn = (place-p, queue-p, own-c, own-d);
-    low = λ i lt. kept i (apart_eqb i p (λ e. omega arith))
-        (false_unless (topped c i) (λ e. let o = inside_over w rs (left_of w R s) (below q now) c p i g.2 g.1.0 (topped_inside c i e) in omega arith))
-        (false_unless (topped d i) (λ e. let o = inside_over w rs (right_of w R s) (below q now) d p i g.3 g.1.1 (topped_inside d i e) in omega arith));
+    low = λ i lt. kept i (ne_eqb i p (λ e. omega arith))
+        (false_from_ne_true (topped c i) (λ e. let o = inside_over w rs (left_of w R s) (below q now) c p i g.2 g.1.0 (topped_inside c i e) in omega arith))
+        (false_from_ne_true (topped d i) (λ e. let o = inside_over w rs (right_of w R s) (below q now) d p i g.3 g.1.1 (topped_inside d i e) in omega arith));
     far = λ i no. kept i
-        (apart_eqb i p (λ e. no (g.0.maker, ap (numbered rs) e ∙ g.0.made, g.0.maker_here)))
-        (false_unless (topped c i) (λ e. let m = inside_maker w rs (left_of w R s) (below q now) c i g.2 (topped_inside c i e) in no (m.0, m.1, left_in w R s m.0 m.2)))
-        (false_unless (topped d i) (λ e. let m = inside_maker w rs (right_of w R s) (below q now) d i g.3 (topped_inside d i e) in no (m.0, m.1, right_in w R s m.0 m.2)));
+        (ne_eqb i p (λ e. no (g.0.maker, ap (numbered rs) e ∙ g.0.made, g.0.maker_here)))
+        (false_from_ne_true (topped c i) (λ e. let m = inside_maker w rs (left_of w R s) (below q now) c i g.2 (topped_inside c i e) in no (m.0, m.1, left_in w R s m.0 m.2)))
+        (false_from_ne_true (topped d i) (λ e. let m = inside_maker w rs (right_of w R s) (below q now) d i g.3 (topped_inside d i e) in no (m.0, m.1, right_in w R s m.0 m.2)));
     out = λ i h.
-        let rest = or_second (eqb i p) (inside i c || inside i d) h in
-        kept i (or_first (eqb i p) (inside i c || inside i d) h)
-        (false_unless (topped c i) (λ e. true≢false (sym (topped_inside c i e) ∙ or_first (inside i c) (inside i d) rest)))
-        (false_unless (topped d i) (λ e. true≢false (sym (topped_inside d i e) ∙ or_second (inside i c) (inside i d) rest)));
+        let rest = (or_parts (eqb i p) (inside i c || inside i d) h).1 in
+        kept i (or_parts (eqb i p) (inside i c || inside i d) h).0
+        (false_from_ne_true (topped c i) (λ e. true≢false (sym (topped_inside c i e) ∙ (or_parts (inside i c) (inside i d) rest).0)))
+        (false_from_ne_true (topped d i) (λ e. true≢false (sym (topped_inside d i e) ∙ (or_parts (inside i c) (inside i d) rest).1)));
   }
 
   -- the same with one child as it was
@@ -74,13 +73,13 @@ module _ {K T : Type 0} (w : Kinds K T) (rs : List (Request K)) (pl pl' : ℕ �
   anew_side on_left p R now s t q a b c g place-p queue-p own-c own-b kept =
       anew p R now s t q c b g place-p queue-p own-c
       (drawn_frame pl pl' qu qu' b (λ i h. kept i
-      (apart_eqb i p (λ e. let o = inside_over w rs (right_of w R s) (below q now) b p i g.3 g.1.1 h in omega arith))
-      (false_unless (topped c i) (λ e. makers_apart w rs R s i (inside_maker w rs (left_of w R s) (below q now) c i g.2 (topped_inside c i e)) (inside_maker w rs (right_of w R s) (below q now) b i g.3 h)))) own-b)
+      (ne_eqb i p (λ e. let o = inside_over w rs (right_of w R s) (below q now) b p i g.3 g.1.1 h in omega arith))
+      (false_from_ne_true (topped c i) (λ e. makers_apart w rs R s i (inside_maker w rs (left_of w R s) (below q now) c i g.2 (topped_inside c i e)) (inside_maker w rs (right_of w R s) (below q now) b i g.3 h)))) own-b)
       (λ i u v x. kept i u v)
   anew_side on_right p R now s t q a b c g place-p queue-p own-c own-a kept =
       anew p R now s t q a c g place-p queue-p
       (drawn_frame pl pl' qu qu' a (λ i h. kept i
-      (apart_eqb i p (λ e. let o = inside_over w rs (left_of w R s) (below q now) a p i g.2 g.1.0 h in omega arith))
-      (false_unless (topped c i) (λ e. makers_apart w rs R s i (inside_maker w rs (left_of w R s) (below q now) a i g.2 h) (inside_maker w rs (right_of w R s) (below q now) c i g.3 (topped_inside c i e))))) own-a)
+      (ne_eqb i p (λ e. let o = inside_over w rs (left_of w R s) (below q now) a p i g.2 g.1.0 h in omega arith))
+      (false_from_ne_true (topped c i) (λ e. makers_apart w rs R s i (inside_maker w rs (left_of w R s) (below q now) a i g.2 h) (inside_maker w rs (right_of w R s) (below q now) c i g.3 (topped_inside c i e))))) own-a)
       own-c
       (λ i u v x. kept i u x)

@@ -1,5 +1,6 @@
 -- Opening, submitting, noting and deciding keep the invariant. Rests on Holds.
 use Rattle.std.proofs.Common.{◌≡◌, ℕ, ◌<◌, ◌≤◌, Bool, true, false, cond, eqb, ◌⊎◌, List, [], Some, None, Option, sym, refl, ap, ◌∙◌, inl, inr, ⊎_elim, arith}
+use Rattle.std.proofs.lemmas.Bool.{eqb-true, ne_eqb}
 use Rattle.requests.specs.declared.request.Request.{Request}
 use Rattle.requests.specs.declared.request.Request.TheVariants.{Enter, Withdraw, LookUp, Count}
 use Rattle.rules.specs.declared.note.Note.TheVariants as note
@@ -12,7 +13,7 @@ use Rattle.rules.proofs.Times.{numbered_within, present_none}
 use Rattle.rules.proofs.Befores.{was}
 use Rattle.rules.proofs.Trees.{Tree, bare}
 use Rattle.rules.proofs.Pends.{waiting}
-use Rattle.rules.proofs.Puts.{put_other, apart_eqb, eqb_eq}
+use Rattle.rules.proofs.Puts.{put_other}
 use Rattle.rules.proofs.Holds.{Bears, Walks, Holds}
 
 -- a register just opened
@@ -31,11 +32,11 @@ opens w l cells = record {
   answers = λ i r asked. absurd (nobody i r asked);
   counts = λ i lo hi asked. absurd (nobody i (Count lo hi) asked);
   uncounted = λ i e. refl;
-  walks = λ n t p noted. absurd (let z : ◌≡◌ {A = ℕ} 0 1 = cc in omega arith);
+  walks = λ n t p noted. absurd cc;
 }
   where
     nobody : {X : Type 0} (i : ℕ) (r : X) → numbered [] i ≡ Some r → ⊥
-    nobody i r e = let z : ◌≡◌ {A = ℕ} 0 1 = cc in omega arith
+    nobody i r e = absurd cc
 
 module _ {K T : Type 0} (w : Kinds K T) (rs : List (Request K)) (x : Tree K T) (time : ℕ) (s : State K T) (h : Holds w rs s x time) where
   -- a station's desk changes, and its note is no wrong walk
@@ -79,7 +80,7 @@ module _ {K T : Type 0} (w : Kinds K T) (rs : List (Request K)) (x : Tree K T) (
     started = h.started;
     good = h.good;
     decided = λ i r₁ k₁ asked wants. go i r₁ k₁ asked wants (eqb i t) refl;
-    unasked = λ i over. put_other s.decision t (Some d) i (apart_eqb i t (λ same. let b = numbered_within rs t r num in omega (arith, b.1))) ∙ h.unasked i over;
+    unasked = λ i over. put_other s.decision t (Some d) i (ne_eqb i t (λ same. let b = numbered_within rs t r num in omega (arith, b.1))) ∙ h.unasked i over;
     answers = λ i r. kept i r;
     counts = h.counts;
     uncounted = h.uncounted;
@@ -94,7 +95,7 @@ module _ {K T : Type 0} (w : Kinds K T) (rs : List (Request K)) (x : Tree K T) (
 
       go : (i : ℕ) (r₁ : Request K) (k₁ : K) → numbered rs i ≡ Some r₁ → sought r₁ ≡ Some k₁ → (b : Bool) → eqb i t ≡ b → (put s.decision t (Some d) i ≡ Some (was w rs i k₁)) ⊎ ((put s.decision t (Some d) i ≡ None) × (time ≤ i))
       go i r₁ k₁ asked wants true e =
-          let same = eqb_eq i t e in
+          let same = eqb-true i t e in
           let one : Some r ≡ Some r₁ = sym num ∙ ap (numbered rs) (sym same) ∙ asked in
           let is : r ≡ r₁ = cc in
           let keys : Some k ≡ Some k₁ = sym seeks ∙ ap sought is ∙ wants in

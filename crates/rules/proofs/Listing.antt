@@ -1,6 +1,6 @@
 -- Reading off: with nobody waiting, the tree's keys from left to right are the plain set. Rests on Finals.
 use Rattle.std.proofs.Common.{◌≡◌, ℕ, zero, suc, ◌+◌, ◌<◌, ◌≤◌, Bool, true, false, not, ◌&&◌, ◌||◌, eqb, List, [], ◌∷◌, ◌++◌, Some, None, sym, refl, ap, ◌∙◌, subst, ⊎_elim, true≢false, arith}
-use Rattle.std.proofs.lemmas.Bool.{cases_lt}
+use Rattle.std.proofs.lemmas.Bool.{cases_lt, false_from_ne_true, or_left, or_right, and_parts, or_parts}
 use Rattle.requests.specs.declared.request.Request.{Request}
 use Rattle.requests.specs.declared.request.Request.TheVariants.{Enter}
 use Rattle.rules.specs.Kinds.{Kinds, Lawful, same, before}
@@ -9,7 +9,7 @@ use Rattle.rules.specs.States.{State, Waiter}
 use Rattle.rules.specs.Queues.{stands, given, finished}
 use Rattle.rules.specs.ReadOff.{all_from_one, keys_under, keys_listed}
 use Rattle.rules.specs.Laws.{ReadingIsPlain}
-use Rattle.rules.proofs.Bools.{or_left, or_right, or_false, or_first, or_second, and_first, and_second, false_unless}
+use Rattle.rules.proofs.Bools.{or_false}
 use Rattle.rules.proofs.Order.{same_eq, before-le_trans}
 use Rattle.rules.proofs.Sets.{has_append, ascends_append, ascends_set_after, same_rows}
 use Rattle.rules.proofs.Times.{numbered_within, set-at_end}
@@ -40,9 +40,9 @@ idle : {K T : Type 0} (x : Tree K T) → ((i : ℕ) → waiting i x ≡ false) �
 idle bare h = tt
 idle (leaf k) h = tt
 idle (node p s t q a b) h = (
-  nobody q (λ i. or_first (stands i q) (waiting i a || waiting i b) (h i)),
-  idle a (λ i. or_first (waiting i a) (waiting i b) (or_second (stands i q) (waiting i a || waiting i b) (h i))),
-  idle b (λ i. or_second (waiting i a) (waiting i b) (or_second (stands i q) (waiting i a || waiting i b) (h i))),
+  nobody q (λ i. (or_parts (stands i q) (waiting i a || waiting i b) (h i)).0),
+  idle a (λ i. (or_parts (waiting i a) (waiting i b) (or_parts (stands i q) (waiting i a || waiting i b) (h i)).1).0),
+  idle b (λ i. (or_parts (waiting i a) (waiting i b) (or_parts (stands i q) (waiting i a || waiting i b) (h i)).1).1),
 )
   where
     self : (j : ℕ) → eqb j j ≡ true
@@ -69,7 +69,7 @@ module _ {K T : Type 0} (w : Kinds K T) (l : Lawful w) (rs : List (Request K)) w
     where
       go : (b : Bool) → R k ≡ b → (same w k j || false) ≡ (b && was w rs t k)
       go true e = or_false (same w k j) ∙ sym (g.1 k e)
-      go false e = or_false (same w k j) ∙ false_unless (same w k j) (λ f. true≢false (sym g.0 ∙ ap R (sym (same_eq w l k j f)) ∙ e))
+      go false e = or_false (same w k j) ∙ false_from_ne_true (same w k j) (λ f. true≢false (sym g.0 ∙ ap R (sym (same_eq w l k j f)) ∙ e))
   tree_has R t (node p s v q a b) i g k =
       let level : below q t ≡ t = ap (λ x. below x t) i.0 in
       let one = tree_has (left_of w R s) t a i.1 (subst (λ u. Good w rs (left_of w R s) u a) level g.2) k in
@@ -85,8 +85,8 @@ module _ {K T : Type 0} (w : Kinds K T) (l : Lawful w) (rs : List (Request K)) w
       let gb = subst (λ u. Good w rs (right_of w R s) u b) level g.3 in
       ascends_append w l (tree_keys a) (tree_keys b) (tree_ascends (left_of w R s) t a i.1 ga) (tree_ascends (right_of w R s) t b i.2 gb)
       (λ k j u z. before-le_trans w l k s j
-      (and_second (R k) (before w k s) (and_first (R k && before w k s) (was w rs t k) (sym (tree_has (left_of w R s) t a i.1 ga k) ∙ u)))
-      (and_second (R j) (w.le s j) (and_first (R j && w.le s j) (was w rs t j) (sym (tree_has (right_of w R s) t b i.2 gb j) ∙ z))))
+      (and_parts (R k) (before w k s) (and_parts (R k && before w k s) (was w rs t k) (sym (tree_has (left_of w R s) t a i.1 ga k) ∙ u)).0).1
+      (and_parts (R j) (w.le s j) (and_parts (R j && w.le s j) (was w rs t j) (sym (tree_has (right_of w R s) t b i.2 gb j) ∙ z)).0).1)
 
 -- numbers rise on every way down
 abbrev AllOver : {K T : Type 0} → Tree K T → Type 0
@@ -120,8 +120,8 @@ all_pass : (test : ℕ → Bool) (n : ℕ) → all_from_one test n ≡ true → 
 all_pass test zero e t h k = absurd (omega arith)
 all_pass test (suc n) e t h k =
     ⊎_elim
-    (λ lt. all_pass test n (and_first (all_from_one test n) (test (suc n)) e) t h (omega arith))
-    (λ ge. let same_number : suc n ≡ t = omega arith in subst (λ i. test i ≡ true) same_number (and_second (all_from_one test n) (test (suc n)) e))
+    (λ lt. all_pass test n (and_parts (all_from_one test n) (test (suc n)) e).0 t h (omega arith))
+    (λ ge. let same_number : suc n ≡ t = omega arith in subst (λ i. test i ≡ true) same_number (and_parts (all_from_one test n) (test (suc n)) e).1)
     (cases_lt t (suc n))
 
 module _ {K T : Type 0} (w : Kinds K T) (l : Lawful w) (s : State K T) (x : Tree K T) (time : ℕ) (h : Holds w s.requests s x time) where
@@ -138,7 +138,7 @@ module _ {K T : Type 0} (w : Kinds K T) (l : Lawful w) (s : State K T) (x : Tree
       last = ⊎_elim (λ lt. absurd (let e = each time h.started (omega arith) in omega (arith, e.0))) (λ ge. omega (arith, near)) (cases_lt time (suc (given s)))
 
       silent : (i : ℕ) → waiting i x ≡ false
-      silent i = false_unless (waiting i x) (λ e.
+      silent i = false_from_ne_true (waiting i x) (λ e.
           let young = waiting-before w s.requests (Everywhere w s.requests) time x i h.good e in
           let old = waiting_over w s.requests (Everywhere w s.requests) time x 0 i h.good h.over e in
           true≢false (sym e ∙ (each i old (omega (arith, near))).1))

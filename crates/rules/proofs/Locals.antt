@@ -1,6 +1,6 @@
 -- A move at a place that is made: what it leaves of the place and all below it. Rests on Meets, Stepped, Sames and Shares.
 use Rattle.std.proofs.Common.{◌≡◌, ℕ, suc, ◌≤◌, Bool, true, false, cond, ◌||◌, eqb, ◌⊎◌, List, [], ◌∷◌, length, Some, Option, sym, refl, ap, ◌∙◌, subst, inl, inr, ⊎_elim, true≢false, arith}
-use Rattle.std.proofs.lemmas.Bool.{cases_eq}
+use Rattle.std.proofs.lemmas.Bool.{cases_eq, false_from_ne_true, ne_eqb, or_from, or_left, or_right}
 use Rattle.requests.specs.declared.answer.Answer.TheVariants as answer
 use Rattle.requests.specs.declared.request.Request.{Request}
 use Rattle.requests.specs.declared.request.Request.TheVariants.{Enter, Withdraw, LookUp, Count}
@@ -10,7 +10,7 @@ use Rattle.rules.specs.States.{State, Slot, Place, Waiter, empty}
 use Rattle.rules.specs.Queues.{numbered, behind}
 use Rattle.rules.specs.Changes.{with_queue, with_place, with_answer}
 use Rattle.rules.specs.Moves.{Step, Side, on_left, on_right, slot_on, with_slot_on, side_of, is_present, slot_for, enter_at, withdraw_at, count_steps, stepped_all, moved}
-use Rattle.rules.proofs.Bools.{both_true, or_left, or_right, or_neither, false_unless}
+use Rattle.rules.proofs.Bools.{both_true}
 use Rattle.rules.proofs.Befores.{was}
 use Rattle.rules.proofs.Trees.{Tree, bare, leaf, node, slot_of, inside, drawn_place, Drawn}
 use Rattle.rules.proofs.Goods.{Over, left_of, right_of, ModeFits, Good}
@@ -19,7 +19,7 @@ use Rattle.rules.proofs.Children.{enter_child, withdraw_child}
 use Rattle.rules.proofs.Pairs.{shown_pair, moved_node, moved_good}
 use Rattle.rules.proofs.Pends.{waiting, pending}
 use Rattle.rules.proofs.Alter.{Changed}
-use Rattle.rules.proofs.Puts.{put-here, put_other, apart_eqb, drawn-put-queue}
+use Rattle.rules.proofs.Puts.{put-here, put_other, drawn-put-queue}
 use Rattle.rules.proofs.Hangs.{topped, topped_inside, picked, other, hung, DrawnAnew, anew, anew_side}
 use Rattle.rules.proofs.Touches.{top_left, top_right}
 use Rattle.rules.proofs.Meets.{Writes, Meets, entered, withdrawn, entered_is, withdrawn_is, enter_meets, withdraw_meets}
@@ -143,11 +143,11 @@ module _ {K T : Type 0} (w : Kinds K T) (l : Lawful w) (s : State K T) (p₀ : �
 
     child_top : (σ : Side) → topped (picked σ a b) (suc p₀) ≡ false
     child_top σ =
-        false_unless (topped (picked σ a b) (suc p₀)) (λ h.
+        false_from_ne_true (topped (picked σ a b) (suc p₀)) (λ h.
         let o = inside_over w s.requests (side_region σ) e.number (picked σ a b) (suc p₀) (suc p₀) (child_good σ) (child_over σ) (topped_inside (picked σ a b) (suc p₀) h) in omega arith)
 
     head_away : eqb (suc p₀) e.number ≡ false
-    head_away = apart_eqb (suc p₀) e.number (λ h. omega (arith, g.0.lined.0))
+    head_away = ne_eqb (suc p₀) e.number (λ h. omega (arith, g.0.lined.0))
 
     child_writes : (σ : Side) → Writes left_queue (suc p₀) (λ y. with_place left_queue (suc p₀) (with_slot_on (drawn_place sp tally a b) σ y)) (slot_of (picked σ a b))
     child_writes σ = record {
@@ -180,7 +180,7 @@ module _ {K T : Type 0} (w : Kinds K T) (l : Lawful w) (s : State K T) (p₀ : �
     pub enter_leaves : MovesAt (moved w s (suc p₀) e (Enter k)) (Enter k)
     enter_leaves =
         subst (λ st. MovesAt st (Enter k)) (sym same_state)
-        (scalar_leaves w l s p₀ e q line (Enter k) num R now sp tally a b n g d σ (enter_child w e.number k x) s' (hung_by w l s p₀ e q line (Enter k) num R now sp tally a b n g d (enter_child w e.number k) (before w k sp)) meets changes (λ lo hi no. let z : ◌≡◌ {A = ℕ} 0 1 = cc in omega arith))
+        (scalar_leaves w l s p₀ e q line (Enter k) num R now sp tally a b n g d σ (enter_child w e.number k x) s' (hung_by w l s p₀ e q line (Enter k) num R now sp tally a b n g d (enter_child w e.number k) (before w k sp)) meets changes (λ lo hi no. absurd cc))
       where
         σ : Side
         σ = side_of w (drawn_place sp tally a b) k
@@ -198,7 +198,7 @@ module _ {K T : Type 0} (w : Kinds K T) (l : Lawful w) (s : State K T) (p₀ : �
         s' = entered w s.requests s₁ (suc p₀) write e.number k x
 
         fresh : s₁.queue e.number ≡ []
-        fresh = queue_there w l s p₀ e q line e.number (apart_eqb e.number (suc p₀) (λ h. omega (arith, g.0.lined.0))) ∙ none
+        fresh = queue_there w l s p₀ e q line e.number (ne_eqb e.number (suc p₀) (λ h. omega (arith, g.0.lined.0))) ∙ none
 
         drawn : Drawn s₁.place s₁.queue x
         drawn = child_drawn w l s p₀ e q line (Enter k) num R now sp tally a b n g d σ
@@ -220,7 +220,7 @@ module _ {K T : Type 0} (w : Kinds K T) (l : Lawful w) (s : State K T) (p₀ : �
     pub withdraw_leaves : MovesAt (moved w s (suc p₀) e (Withdraw k)) (Withdraw k)
     withdraw_leaves =
         subst (λ st. MovesAt st (Withdraw k)) (sym same_state)
-        (scalar_leaves w l s p₀ e q line (Withdraw k) num R now sp tally a b n g d σ (withdraw_child w e.number k x) s' (hung_by w l s p₀ e q line (Withdraw k) num R now sp tally a b n g d (withdraw_child w e.number k) (before w k sp)) meets changes (λ lo hi no. let z : ◌≡◌ {A = ℕ} 0 1 = cc in omega arith))
+        (scalar_leaves w l s p₀ e q line (Withdraw k) num R now sp tally a b n g d σ (withdraw_child w e.number k x) s' (hung_by w l s p₀ e q line (Withdraw k) num R now sp tally a b n g d (withdraw_child w e.number k) (before w k sp)) meets changes (λ lo hi no. absurd cc))
       where
         σ : Side
         σ = side_of w (drawn_place sp tally a b) k
@@ -287,10 +287,10 @@ module _ {K T : Type 0} (w : Kinds K T) (l : Lawful w) (s : State K T) (p₀ : �
         once S (node f sf v qf x y) gy = (top_left w s.requests S e.number f sf v qf x y gy, top_right w s.requests S e.number f sf v qf x y gy)
 
         away_right : TopAway a b
-        away_right i h = false_unless (inside i b) (λ in_b. makers_apart w s.requests R sp i (inside_maker w s.requests (left_of w R sp) e.number a i g.2 (topped_inside a i h)) (inside_maker w s.requests (right_of w R sp) e.number b i g.3 in_b))
+        away_right i h = false_from_ne_true (inside i b) (λ in_b. makers_apart w s.requests R sp i (inside_maker w s.requests (left_of w R sp) e.number a i g.2 (topped_inside a i h)) (inside_maker w s.requests (right_of w R sp) e.number b i g.3 in_b))
 
         away_left : TopAway b a
-        away_left i h = false_unless (inside i a) (λ in-a. makers_apart w s.requests R sp i (inside_maker w s.requests (left_of w R sp) e.number a i g.2 in-a) (inside_maker w s.requests (right_of w R sp) e.number b i g.3 (topped_inside b i h)))
+        away_left i h = false_from_ne_true (inside i a) (λ in-a. makers_apart w s.requests R sp i (inside_maker w s.requests (left_of w R sp) e.number a i g.2 in-a) (inside_maker w s.requests (right_of w R sp) e.number b i g.3 (topped_inside b i h)))
 
         left-drawn : Drawn s₁.place s₁.queue a
         left-drawn = child_drawn w l s p₀ e q line (Count lo hi) num R now sp tally a b n g d on_left
@@ -305,9 +305,9 @@ module _ {K T : Type 0} (w : Kinds K T) (l : Lawful w) (s : State K T) (p₀ : �
         new = anew w s.requests s.place s'.place s.queue s'.queue (suc p₀) R now sp tally q (shown_pair w e.number steps (a, b)).0 (shown_pair w e.number steps (a, b)).1
             (good_after w l s p₀ e q line (Count lo hi) num R now sp tally a b n g d)
             (ap (λ f. f (suc p₀)) did.0.place ∙ d.0 ∙ ap (λ z. Some (record { split = sp; left = z; right = slot_of b; tally = tally })) (sym (slot_pair_left w e.number steps a b)) ∙ ap (λ z. Some (record { split = sp; left = slot_of (shown_pair w e.number steps (a, b)).0; right = z; tally = tally })) (sym (slot_pair_right w e.number steps a b)))
-            (did.0.queue (suc p₀) (or_neither (topped a (suc p₀)) (topped b (suc p₀)) (child_top w l s p₀ e q line (Count lo hi) num R now sp tally a b n g d on_left) (child_top w l s p₀ e q line (Count lo hi) num R now sp tally a b n g d on_right)) ∙ queue_here w l s p₀ e q line)
+            (did.0.queue (suc p₀) (or_from (topped a (suc p₀)) (topped b (suc p₀)) (child_top w l s p₀ e q line (Count lo hi) num R now sp tally a b n g d on_left) (child_top w l s p₀ e q line (Count lo hi) num R now sp tally a b n g d on_right)) ∙ queue_here w l s p₀ e q line)
             did.1 did.2
-            (λ i u c₁ c₂. (ap (λ f. f i) did.0.place, did.0.queue i (or_neither (topped a i) (topped b i) (sym (topped_pair_left w e.number steps a b i) ∙ c₁) (sym (topped_pair_right w e.number steps a b i) ∙ c₂)) ∙ queue_there w l s p₀ e q line i u))
+            (λ i u c₁ c₂. (ap (λ f. f i) did.0.place, did.0.queue i (or_from (topped a i) (topped b i) (sym (topped_pair_left w e.number steps a b i) ∙ c₁) (sym (topped_pair_right w e.number steps a b i) ∙ c₂)) ∙ queue_there w l s p₀ e q line i u))
 
         sums : (i : ℕ) (x y : K) → numbered s.requests i ≡ Some (Count x y) → w.joined (s'.counted i) (pending w s.requests i x y R (moved_node w (Count lo hi) (node (suc p₀) sp tally (e ∷ q) a b))) ≡ w.joined (s.counted i) (pending w s.requests i x y R (node (suc p₀) sp tally (e ∷ q) a b))
         sums i x y count =
@@ -318,7 +318,7 @@ module _ {K T : Type 0} (w : Kinds K T) (l : Lawful w) (s : State K T) (p₀ : �
             let second : hi ≡ y = cc in
             subst (λ j. Adds j x y) (sym same) (subst (λ v. Adds e.number v y) first (subst (λ v. Adds e.number lo v) second own)))
             (λ differs.
-            ap (λ v. w.joined v (pending w s.requests i x y R after)) (did.0.others i (apart_eqb i e.number differs))
+            ap (λ v. w.joined v (pending w s.requests i x y R after)) (did.0.others i (ne_eqb i e.number differs))
             ∙ ap (w.joined (s.counted i)) (pending_node w l s.requests (Count lo hi) (suc p₀) sp tally e q a b i x y R differs))
             (cases_eq i e.number)
           where

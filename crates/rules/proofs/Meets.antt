@@ -1,5 +1,6 @@
 -- An enter or a withdraw meets the tree under a slot, at the gate or at a place: the state that it leaves. Rests on Touches.
 use Rattle.std.proofs.Common.{◌≡◌, ℕ, Bool, true, false, ◌||◌, eqb, ◌⊎◌, List, [], ◌∷◌, ◌++◌, Some, sym, refl, ap, ◌∙◌, inl, inr, arith}
+use Rattle.std.proofs.lemmas.Bool.{or_left, or_right}
 use Rattle.requests.specs.declared.answer.Answer.TheVariants as answer
 use Rattle.requests.specs.declared.request.Request.{Request}
 use Rattle.rules.specs.declared.mode.Mode.TheVariants.{Between}
@@ -8,7 +9,6 @@ use Rattle.rules.specs.States.{State, Slot, Waiter, empty, holds, leads}
 use Rattle.rules.specs.Queues.{stands}
 use Rattle.rules.specs.Changes.{with_answer, with_place, with_waiter}
 use Rattle.rules.specs.Moves.{with_slot_for, made_place, enter_at, withdraw_at}
-use Rattle.rules.proofs.Bools.{or_left, or_right}
 use Rattle.rules.proofs.Trees.{Tree, bare, leaf, node, slot_of, drawn_place, Drawn}
 use Rattle.rules.proofs.Goods.{Good}
 use Rattle.rules.proofs.Joins.{stands_append}

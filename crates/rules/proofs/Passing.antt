@@ -1,6 +1,6 @@
 -- Each kind of request leaving the gate. Rests on Gates, Meets, Shows and Shares.
 use Rattle.std.proofs.Common.{◌≡◌, ℕ, suc, ◌<◌, Bool, true, false, cond, ◌&&◌, ◌||◌, eqb, List, [], ◌∷◌, length, is_some, Some, None, sym, refl, ap, ◌∙◌, subst, ⊎_elim, true≢false, arith}
-use Rattle.std.proofs.lemmas.Bool.{cases_eq}
+use Rattle.std.proofs.lemmas.Bool.{cases_eq, false_from_ne_true, ne_eqb, or_parts}
 use Rattle.requests.specs.declared.answer.Answer.{Answer}
 use Rattle.requests.specs.declared.answer.Answer.TheVariants as answer
 use Rattle.requests.specs.declared.request.Request.{Request}
@@ -14,7 +14,6 @@ use Rattle.rules.specs.Queues.{numbered, stands, behind}
 use Rattle.rules.specs.Changes.{with_queue, with_answer, with_gate}
 use Rattle.rules.specs.Moves.{wanted, is_present, enter_at, withdraw_at, shown, moved, acted}
 use Rattle.rules.specs.Carries.{sought}
-use Rattle.rules.proofs.Bools.{or_first, or_second, false_unless}
 use Rattle.rules.proofs.Order.{same_eq}
 use Rattle.rules.proofs.Weights.{neutral-right}
 use Rattle.rules.proofs.Times.{told}
@@ -25,7 +24,7 @@ use Rattle.rules.proofs.Children.{enter_child, withdraw_child, count_child, chil
 use Rattle.rules.proofs.Insides.{inside_over}
 use Rattle.rules.proofs.Pairs.{over_enter, over_withdraw, over_count}
 use Rattle.rules.proofs.Pends.{waiting, queue_share, pending}
-use Rattle.rules.proofs.Puts.{put-here, put_other, apart_eqb, drawn-put-queue}
+use Rattle.rules.proofs.Puts.{put-here, put_other, drawn-put-queue}
 use Rattle.rules.proofs.Hangs.{topped, topped_inside}
 use Rattle.rules.proofs.Touches.{top_left, top_right}
 use Rattle.rules.proofs.Meets.{Writes, Meets, entered, withdrawn, entered_is, withdrawn_is, enter_meets, withdraw_meets}
@@ -51,7 +50,7 @@ module _ {K T : Type 0} (w : Kinds K T) (l : Lawful w) (s : State K T) (x : Tree
   s₁ = with_queue s 0 (behind (s.queue 0))
 
   no_gate : inside 0 x ≡ false
-  no_gate = false_unless (inside 0 x) (λ e. let o = inside_over w rs all time x 0 0 h.good h.over e in omega arith)
+  no_gate = false_from_ne_true (inside 0 x) (λ e. let o = inside_over w rs all time x 0 0 h.good h.over e in omega arith)
 
   drawn-left : Drawn s₁.place s₁.queue x
   drawn-left = drawn-put-queue s.place s.queue x 0 (behind (s.queue 0)) no_gate h.drawn
@@ -62,10 +61,10 @@ module _ {K T : Type 0} (w : Kinds K T) (l : Lawful w) (s : State K T) (x : Tree
   outside-left : (i : ℕ) → inside i x ≡ false → (s₁.place i ≡ None) × (0 < i → s₁.queue i ≡ [])
   outside-left i out =
       let o = h.others i out in
-      (o.0, λ z. put_other s.queue 0 (behind (s.queue 0)) i (apart_eqb i 0 (λ e. omega arith)) ∙ o.1 z)
+      (o.0, λ z. put_other s.queue 0 (behind (s.queue 0)) i (ne_eqb i 0 (λ e. omega arith)) ∙ o.1 z)
 
   not-waiting : waiting time x ≡ false
-  not-waiting = false_unless (waiting time x) (λ e. let b = waiting-before w rs all time x time h.good e in omega arith)
+  not-waiting = false_from_ne_true (waiting time x) (λ e. let b = waiting-before w rs all time x time h.good e in omega arith)
 
   -- the request is answered at the gate, and the set is not changed by it
   module _ (v : Answer T) (unmoved : (k : K) → Unmoved w rs time k) (right : (lo hi : K) → r ≡ Count lo hi → ⊥) (bears : Bears w rs (with_answer s₁ time v) time r) where
@@ -106,14 +105,14 @@ module _ {K T : Type 0} (w : Kinds K T) (l : Lawful w) (s : State K T) (x : Tree
     }
       where
         flat : (i : ℕ) → inside i c ≡ false → topped c i ≡ false
-        flat i out = false_unless (topped c i) (λ e. true≢false (sym (topped_inside c i e) ∙ out))
+        flat i out = false_from_ne_true (topped c i) (λ e. true≢false (sym (topped_inside c i e) ∙ out))
 
         others : (i : ℕ) → inside i c ≡ false → (s'.place i ≡ None) × (0 < i → s'.queue i ≡ [])
         others i out =
             let old = outside-left i (grown i out) in
             ⊎_elim
             (λ zero_is. (ap s'.place zero_is ∙ m.place_here ∙ (outside-left 0 no_gate).0, λ z. absurd (omega arith)))
-            (λ other. let k = m.kept i (apart_eqb i 0 other) (flat i out) in (k.0 ∙ old.0, λ z. k.1 ∙ old.1 z))
+            (λ other. let k = m.kept i (ne_eqb i 0 other) (flat i out) in (k.0 ∙ old.0, λ z. k.1 ∙ old.1 z))
             (cases_eq i 0)
 
   gate_writes : Writes s₁ 0 (with_gate s₁) (slot_of x)
@@ -128,14 +127,14 @@ module _ {K T : Type 0} (w : Kinds K T) (l : Lawful w) (s : State K T) (x : Tree
   }
 
   top_gate : topped x 0 ≡ false
-  top_gate = false_unless (topped x 0) (λ e. true≢false (sym (topped_inside x 0 e) ∙ no_gate))
+  top_gate = false_from_ne_true (topped x 0) (λ e. true≢false (sym (topped_inside x 0 e) ∙ no_gate))
 
   gate_apart : eqb 0 time ≡ false
-  gate_apart = apart_eqb 0 time (λ e. omega (arith, h.started))
+  gate_apart = ne_eqb 0 time (λ e. omega (arith, h.started))
 
   none_there : s₁.queue time ≡ []
   none_there =
-      (outside-left time (false_unless (inside time x) (λ e. let b = inside_before w rs all time x time h.good e in omega arith))).1 h.started
+      (outside-left time (false_from_ne_true (inside time x) (λ e. let b = inside_before w rs all time x time h.good e in omega arith))).1 h.started
 
 -- a request that asks for what is already so changes nothing
 module _ {K T : Type 0} (w : Kinds K T) (l : Lawful w) (rs : List (Request K)) (t : ℕ) (k : K) where
@@ -157,18 +156,18 @@ module _ {K T : Type 0} (w : Kinds K T) (l : Lawful w) (rs : List (Request K)) w
   queue_share_none : (i : ℕ) (lo hi : K) (R : K → Bool) (q : List Waiter) → stands i q ≡ false → queue_share w rs i lo hi R q ≡ w.none
   queue_share_none i lo hi R [] e = refl
   queue_share_none i lo hi R (x ∷ q) e =
-      let away : eqb x.number i ≡ false = or_first (eqb x.number i) (stands i q) e in
-      let rest = queue_share_none i lo hi R q (or_second (eqb x.number i) (stands i q) e) in
+      let away : eqb x.number i ≡ false = (or_parts (eqb x.number i) (stands i q) e).0 in
+      let rest = queue_share_none i lo hi R q (or_parts (eqb x.number i) (stands i q) e).1 in
       ap (λ v. w.joined (cond v (weight_of w (λ k. R k && wanted w lo hi x.mode k) (set_before w rs i)) w.none) (queue_share w rs i lo hi R q)) away ∙ l.neutral (queue_share w rs i lo hi R q) ∙ rest
 
   pub pending_none : (i : ℕ) (lo hi : K) (R : K → Bool) (x : Tree K T) → waiting i x ≡ false → pending w rs i lo hi R x ≡ w.none
   pending_none i lo hi R bare e = refl
   pending_none i lo hi R (leaf k) e = refl
   pending_none i lo hi R (node p s t q a b) e =
-      let here = queue_share_none i lo hi R q (or_first (stands i q) (waiting i a || waiting i b) e) in
-      let below-here = or_second (stands i q) (waiting i a || waiting i b) e in
-      let one = pending_none i lo hi (left_of w R s) a (or_first (waiting i a) (waiting i b) below-here) in
-      let two = pending_none i lo hi (right_of w R s) b (or_second (waiting i a) (waiting i b) below-here) in
+      let here = queue_share_none i lo hi R q (or_parts (stands i q) (waiting i a || waiting i b) e).0 in
+      let below-here = (or_parts (stands i q) (waiting i a || waiting i b) e).1 in
+      let one = pending_none i lo hi (left_of w R s) a (or_parts (waiting i a) (waiting i b) below-here).0 in
+      let two = pending_none i lo hi (right_of w R s) b (or_parts (waiting i a) (waiting i b) below-here).1 in
       let zero-zero = l.neutral w.none in
       cc
 
@@ -185,7 +184,7 @@ module _ {K T : Type 0} (w : Kinds K T) (l : Lawful w) (s : State K T) (x : Tree
     look_up_passes =
         stays_out w l s x time h (LookUp k) num (cond (is_present (s.decision time)) answer.Present answer.Absent)
         (λ j. unmoved_silent w l s.requests time (LookUp k) j num refl)
-        (λ lo hi is. let z : ◌≡◌ {A = ℕ} 0 1 = cc in omega arith)
+        (λ lo hi is. absurd cc)
         (put-here s.answer time _ ∙ ap (λ d. Some (cond (is_present d) answer.Present answer.Absent)) dec)
 
   module _ (k : K) (num : numbered s.requests time ≡ Some (Enter k)) (dec : s.decision time ≡ Some (was w s.requests time k)) where
@@ -194,13 +193,13 @@ module _ {K T : Type 0} (w : Kinds K T) (l : Lawful w) (s : State K T) (x : Tree
       x,
       subst (λ st. Passes w s x time (Enter k) st x)
           (sym (ap (λ v. cond v (with_answer left time answer.Unchanged) (enter_at w left time 0 k s.slot)) (ap is_present (dec ∙ ap Some is))))
-          (stays_out w l s x time h (Enter k) num answer.Unchanged (enter_settled w l s.requests time k num is) (λ lo hi no_such. let z : ◌≡◌ {A = ℕ} 0 1 = cc in omega arith)
+          (stays_out w l s x time h (Enter k) num answer.Unchanged (enter_settled w l s.requests time k num is) (λ lo hi no_such. absurd cc)
           (put-here s.answer time (Some answer.Unchanged) ∙ sym (ap (λ v. Some (cond v answer.Unchanged answer.Changed)) is))),
     )
     enter_passes false is = (
       enter_child w time k x,
       subst (λ st. Passes w s x time (Enter k) st (enter_child w time k x)) (sym same_state)
-          (goes_in w l s x time h (Enter k) num met (enter_child w time k x) meets (λ lo hi no_such. let z : ◌≡◌ {A = ℕ} 0 1 = cc in omega arith)
+          (goes_in w l s x time h (Enter k) num met (enter_child w time k x) meets (λ lo hi no_such. absurd cc)
           (child_entered w l s.requests any time (suc time) (omega arith) (still_now w l s x time h (Enter k) num) k num refl is x h.good)
           (over_enter w 0 time k x h.started h.over) (grown_enter w time k x)
           (λ done. done ∙ sym (ap (λ v. Some (cond v answer.Unchanged answer.Changed)) is))
@@ -228,13 +227,13 @@ module _ {K T : Type 0} (w : Kinds K T) (l : Lawful w) (s : State K T) (x : Tree
       x,
       subst (λ st. Passes w s x time (Withdraw k) st x)
           (sym (ap (λ v. cond v (withdraw_at w left time 0 k s.slot) (with_answer left time answer.Unchanged)) (ap is_present (dec ∙ ap Some is))))
-          (stays_out w l s x time h (Withdraw k) num answer.Unchanged (withdraw_settled w l s.requests time k num is) (λ lo hi no_such. let z : ◌≡◌ {A = ℕ} 0 1 = cc in omega arith)
+          (stays_out w l s x time h (Withdraw k) num answer.Unchanged (withdraw_settled w l s.requests time k num is) (λ lo hi no_such. absurd cc)
           (put-here s.answer time (Some answer.Unchanged) ∙ sym (ap (λ v. Some (cond v answer.Changed answer.Unchanged)) is))),
     )
     withdraw_passes true is = (
       withdraw_child w time k x,
       subst (λ st. Passes w s x time (Withdraw k) st (withdraw_child w time k x)) (sym same_state)
-          (goes_in w l s x time h (Withdraw k) num met (withdraw_child w time k x) meets (λ lo hi no_such. let z : ◌≡◌ {A = ℕ} 0 1 = cc in omega arith)
+          (goes_in w l s x time h (Withdraw k) num met (withdraw_child w time k x) meets (λ lo hi no_such. absurd cc)
           (child_withdrawn w l s.requests any time (suc time) (omega arith) (still_now w l s x time h (Withdraw k) num) k num refl is x h.good)
           (over_withdraw w 0 time k x h.over) (grown_withdraw w time k x)
           (λ done. done ∙ sym (ap (λ v. Some (cond v answer.Changed answer.Unchanged)) is))
@@ -292,7 +291,7 @@ module _ {K T : Type 0} (w : Kinds K T) (l : Lawful w) (s : State K T) (x : Tree
         once (node f sf v qf c d) g = (top_left w s.requests any time f sf v qf c d g, top_right w s.requests any time f sf v qf c d g)
 
         flat : (i : ℕ) → inside i x ≡ false → topped x i ≡ false
-        flat i out = false_unless (topped x i) (λ e. true≢false (sym (topped_inside x i e) ∙ out))
+        flat i out = false_from_ne_true (topped x i) (λ e. true≢false (sym (topped_inside x i e) ∙ out))
 
         others : (i : ℕ) → inside i (count_child w time Between x) ≡ false → (after.place i ≡ None) × (0 < i → after.queue i ≡ [])
         others i out =

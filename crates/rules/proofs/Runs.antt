@@ -1,5 +1,5 @@
 -- Every call keeps the invariant, so every run of calls has it. Rests on Carrying.
-use Rattle.std.proofs.Common.{◌≡◌, ℕ, suc, List, [], ◌∷◌, ◌++◌, Some, None, Ok, Err, Option, Result, sym, refl, subst, arith}
+use Rattle.std.proofs.Common.{◌≡◌, ℕ, suc, List, [], ◌∷◌, ◌++◌, Some, None, Ok, Err, Option, Result, sym, refl, subst}
 use Rattle.keys.specs.declared.refusal.Refusal.{Refusal}
 use Rattle.requests.specs.declared.answer.Answer.{Answer}
 use Rattle.requests.specs.declared.request.Request.{Request}
@@ -56,7 +56,7 @@ module _ {K T : Type 0} (w : Kinds K T) (step : Stepper w) where
     submits n r (Some e) = stays n
 
     follows : (n : ℕ) (i p : ℕ) (o : Option Refusal) → CalledWell n (state_by o s (with_note s n (note.Saw i p)))
-    follows n i p None = desks n _ (λ t q e. let z : ◌≡◌ {A = ℕ} 0 1 = cc in absurd (omega arith))
+    follows n i p None = desks n _ (λ t q e. absurd cc)
     follows n i p (Some e) = stays n
 
     by_note : (n : ℕ) (o : Option Refusal) → CalledWell n (state_by o s (rule.carried w s n (s.desk n).note).1)

@@ -1,5 +1,6 @@
 -- What a move leaves to every other request: places, waiting, what a count still adds, ways. Rests on Pairs and Pends.
-use Rattle.std.proofs.Common.{◌≡◌, ℕ, Bool, true, false, cond, ◌||◌, eqb, List, [], ◌∷◌, ◌++◌, Some, None, Option, sym, refl, ap, ◌∙◌, ap₂, inl, inr, ⊎_elim, arith}
+use Rattle.std.proofs.Common.{◌≡◌, ℕ, Bool, true, false, cond, ◌||◌, eqb, List, [], ◌∷◌, ◌++◌, Some, None, Option, sym, refl, ap, ◌∙◌, ap₂, inl, inr, ⊎_elim}
+use Rattle.std.proofs.lemmas.Bool.{ne_eqb, or_from, or_parts}
 use Rattle.requests.specs.declared.request.Request.{Request}
 use Rattle.requests.specs.declared.request.Request.TheVariants.{Enter, Withdraw, LookUp, Count}
 use Rattle.rules.specs.declared.mode.Mode.{Mode}
@@ -9,7 +10,7 @@ use Rattle.rules.specs.States.{Waiter}
 use Rattle.rules.specs.Queues.{numbered, stands}
 use Rattle.rules.specs.Moves.{count_steps}
 use Rattle.rules.specs.Carries.{says, later, last_word}
-use Rattle.rules.proofs.Bools.{bool_case, bool_map, or_false, or_first, or_second, or_neither}
+use Rattle.rules.proofs.Bools.{bool_case, bool_map, or_false}
 use Rattle.rules.proofs.Weights.{neutral-right}
 use Rattle.rules.proofs.Trees.{Tree, bare, leaf, node, inside}
 use Rattle.rules.proofs.Goods.{left_of, right_of}
@@ -17,12 +18,11 @@ use Rattle.rules.proofs.Joins.{stands_append}
 use Rattle.rules.proofs.Children.{waiter, enter_child, withdraw_child, count_child}
 use Rattle.rules.proofs.Pairs.{shown_pair, moved_pair, moved_node}
 use Rattle.rules.proofs.Pends.{waiting, share, queue_share, pending, OnWay}
-use Rattle.rules.proofs.Puts.{apart_eqb}
 
 -- who is not the one that joins the end of a queue stands there as before
 stands_beside : (i : ℕ) (q : List Waiter) (e : Waiter) → (i ≡ e.number → ⊥) → stands i (q ++ (e ∷ [])) ≡ stands i q
 stands_beside i q e other =
-    stands_append i q e ∙ ap (λ v. stands i q || v) (apart_eqb e.number i (λ h. other (sym h))) ∙ or_false (stands i q)
+    stands_append i q e ∙ ap (λ v. stands i q || v) (ne_eqb e.number i (λ h. other (sym h))) ∙ or_false (stands i q)
 
 module _ {K T : Type 0} (w : Kinds K T) where
   -- a relation between trees that request t leaves, whatever it is and whichever tree it meets
@@ -93,10 +93,10 @@ module _ {K T : Type 0} (w : Kinds K T) where
   grown_node r p s tally (x ∷ q) a b i e =
       let c = (moved_pair w r x.number x.mode s a b).0 in
       let d = (moved_pair w r x.number x.mode s a b).1 in
-      let below = or_second (eqb i p) (inside i c || inside i d) e in
-      let one = left-moved x.number (λ y z. inside i z ≡ false → inside i y ≡ false) (grown_left x.number i) r x.mode s a b (or_first (inside i c) (inside i d) below) in
-      let two = right-moved x.number (λ y z. inside i z ≡ false → inside i y ≡ false) (grown_left x.number i) r x.mode s a b (or_second (inside i c) (inside i d) below) in
-      or_neither (eqb i p) (inside i a || inside i b) (or_first (eqb i p) (inside i c || inside i d) e) (or_neither (inside i a) (inside i b) one two)
+      let below = (or_parts (eqb i p) (inside i c || inside i d) e).1 in
+      let one = left-moved x.number (λ y z. inside i z ≡ false → inside i y ≡ false) (grown_left x.number i) r x.mode s a b (or_parts (inside i c) (inside i d) below).0 in
+      let two = right-moved x.number (λ y z. inside i z ≡ false → inside i y ≡ false) (grown_left x.number i) r x.mode s a b (or_parts (inside i c) (inside i d) below).1 in
+      or_from (eqb i p) (inside i a || inside i b) (or_parts (eqb i p) (inside i c || inside i d) e).0 (or_from (inside i a) (inside i b) one two)
 
   -- every other request waits as before
   pub waits_enter : (t : ℕ) (k : K) (x : Tree K T) (i : ℕ) → (i ≡ t → ⊥) → waiting i (enter_child w t k x) ≡ waiting i x
@@ -126,13 +126,13 @@ module _ {K T : Type 0} (w : Kinds K T) where
   waits_node r p s tally e q a b i other =
       let one = left-moved e.number (λ y z. waiting i z ≡ waiting i y) (waits-left e.number i other) r e.mode s a b in
       let two = right-moved e.number (λ y z. waiting i z ≡ waiting i y) (waits-left e.number i other) r e.mode s a b in
-      let gone = apart_eqb e.number i (λ h. other (sym h)) in
+      let gone = ne_eqb e.number i (λ h. other (sym h)) in
       ap₂ (λ u v. stands i q || (u || v)) one two ∙ ap (λ v. (v || stands i q) || (waiting i a || waiting i b)) (sym gone)
 
 module _ {K T : Type 0} (w : Kinds K T) (l : Lawful w) (rs : List (Request K)) where
   -- what another request adds is nothing to this count
   share_other : (i : ℕ) (lo hi : K) (R : K → Bool) (e : Waiter) → (i ≡ e.number → ⊥) → share w rs i lo hi R e ≡ w.none
-  share_other i lo hi R e other = let gone = apart_eqb e.number i (λ h. other (sym h)) in rw gone
+  share_other i lo hi R e other = let gone = ne_eqb e.number i (λ h. other (sym h)) in rw gone
 
   pub queue_share_append : (i : ℕ) (lo hi : K) (R : K → Bool) (q : List Waiter) (e : Waiter) → queue_share w rs i lo hi R (q ++ (e ∷ [])) ≡ w.joined (queue_share w rs i lo hi R q) (share w rs i lo hi R e)
   queue_share_append i lo hi R [] e = l.commutative (share w rs i lo hi R e) w.none
@@ -194,7 +194,7 @@ module _ {K T : Type 0} (w : Kinds K T) (rs : List (Request K)) where
   -- where nothing was said, both were silent
   later-none : (a b : Option Bool) → later a b ≡ None → (a ≡ None) × (b ≡ None)
   later-none None b e = (refl, e)
-  later-none (Some d) b e = let z : ◌≡◌ {A = ℕ} 0 1 = cc in absurd (omega arith)
+  later-none (Some d) b e = absurd cc
 
   -- a queue that says nothing of a key says nothing with a silent request at its end
   pub last_word_silent : (k : K) (q : List Waiter) (e : Waiter) → last_word w rs k q ≡ None → word_of k e.number ≡ None → last_word w rs k (q ++ (e ∷ [])) ≡ None

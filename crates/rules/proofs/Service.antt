@@ -75,7 +75,7 @@ module _ {K T : Type 0} (w : Kinds K T) (step : Stepper w) where
           ∙ ap (λ r. with_note s n (note.Saw r (followed_place w s t))) first ∙ ap (λ p. with_note s n (note.Saw v.0 p)) place)) (
             x,
             time,
-            step.desks rs x time s h n _ (λ i p f. let z : ◌≡◌ {A = ℕ} 0 1 = cc in absurd (omega arith)),
+            step.desks rs x time s h n _ (λ i p f. absurd cc),
             le,
             follow_lowers w rs s x time h n t le v.0 u.0 v.2 v.3 v.4,
           )

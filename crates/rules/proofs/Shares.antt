@@ -1,5 +1,6 @@
 -- A count adds at a place exactly what it then no longer has to add. Rests on Sames.
 use Rattle.std.proofs.Common.{◌≡◌, ℕ, pred, Bool, true, false, cond, not, ◌&&◌, ◌||◌, eqb, List, [], ◌∷◌, ◌++◌, sym, refl, ap, ◌∙◌, true≢false, arith}
+use Rattle.std.proofs.lemmas.Bool.{false_from_ne_true}
 use Rattle.requests.specs.declared.request.Request.{Request}
 use Rattle.requests.specs.declared.request.Request.TheVariants.{Count}
 use Rattle.rules.specs.declared.mode.Mode.{Mode}
@@ -8,7 +9,7 @@ use Rattle.rules.specs.Kinds.{Kinds, Lawful, before}
 use Rattle.rules.specs.Plain.{set_before, weight_of}
 use Rattle.rules.specs.States.{Waiter}
 use Rattle.rules.specs.Moves.{on_left, on_right, Step, show, add, count_steps, wanted}
-use Rattle.rules.proofs.Bools.{both_true, false_unless}
+use Rattle.rules.proofs.Bools.{both_true}
 use Rattle.rules.proofs.Order.{same_eq, le-before_trans}
 use Rattle.rules.proofs.Weights as weights
 use Rattle.rules.proofs.Times.{ascends_at}
@@ -127,7 +128,7 @@ module _ {K T : Type 0} (w : Kinds K T) (l : Lawful w) where
 module _ {K T : Type 0} (w : Kinds K T) (l : Lawful w) (rs : List (Request K)) where
   -- the whole of a good tree is the weight of its region
   pub whole_is : (R : K → Bool) (t : ℕ) (x : Tree K T) → Good w rs R t x → whole_of w x ≡ weight_before w R rs t
-  whole_is R t bare g = sym (weights.weight_nothing w l R (set_before w rs t) (λ k h. false_unless (R k) (λ r. true≢false (sym h ∙ g k r))))
+  whole_is R t bare g = sym (weights.weight_nothing w l R (set_before w rs t) (λ k h. false_from_ne_true (R k) (λ r. true≢false (sym h ∙ g k r))))
   whole_is R t (leaf j) g = sym (weights.weight_one w l R j (set_before w rs t) (ascends_at w l rs (pred t)) g.0 (λ k r. g.1 k r))
   whole_is R t (node p s tally q a b) g = g.0.weighs
 
@@ -141,7 +142,7 @@ module _ {K T : Type 0} (w : Kinds K T) (l : Lawful w) (rs : List (Request K)) w
       sym (weights.weight_one w l (λ k. R k && wanted w lo hi m k) j (set_before w rs t) (ascends_at w l rs (pred t)) (both_true g.0 e)
       (λ k r. g.1 k (and_first (R k) (wanted w lo hi m k) r)))
   lone_share R t lo hi m j g false e =
-      sym (weights.weight_nothing w l (λ k. R k && wanted w lo hi m k) (set_before w rs t) (λ k h. false_unless (R k && wanted w lo hi m k) (λ r.
+      sym (weights.weight_nothing w l (λ k. R k && wanted w lo hi m k) (set_before w rs t) (λ k h. false_from_ne_true (R k && wanted w lo hi m k) (λ r.
       let here = same_eq w l k j (sym (g.1 k (and_first (R k) (wanted w lo hi m k) r)) ∙ h) in
       true≢false (sym (and_second (R k) (wanted w lo hi m k) r) ∙ ap (wanted w lo hi m) here ∙ e))))
 
@@ -153,7 +154,7 @@ module _ {K T : Type 0} (w : Kinds K T) (l : Lawful w) (rs : List (Request K)) w
   pub shown_share : (R : K → Bool) (t : ℕ) (lo hi : K) (m : Mode) (x : Tree K T) → Good w rs R t x → w.joined (added w lo hi m x) (pending w rs t lo hi R (count_child w t m x)) ≡ w.joined (weight_of w (λ k. R k && wanted w lo hi m k) (set_before w rs t)) (pending w rs t lo hi R x)
   shown_share R t lo hi m bare g =
       ap (λ v. w.joined v w.none) (sym (weights.weight_nothing w l (λ k. R k && wanted w lo hi m k) (set_before w rs t)
-      (λ k h. false_unless (R k && wanted w lo hi m k) (λ r. true≢false (sym h ∙ g k (and_first (R k) (wanted w lo hi m k) r))))))
+      (λ k h. false_from_ne_true (R k && wanted w lo hi m k) (λ r. true≢false (sym h ∙ g k (and_first (R k) (wanted w lo hi m k) r))))))
   shown_share R t lo hi m (leaf j) g = ap (λ v. w.joined v w.none) (lone_share R t lo hi m j g (wanted w lo hi m j) refl)
   shown_share R t lo hi m (node p s tally q a b) g =
       l.neutral (w.joined (queue_share w rs t lo hi R (q ++ (waiter t m ∷ []))) rest)

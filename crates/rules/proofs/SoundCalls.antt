@@ -43,7 +43,7 @@ module _ {K T : Type 0} (w : Kinds K T) where
       at_gate = λ x m u. absurd (true≢false (sym u));
       plain = λ p x m r u num wants. absurd (true≢false (sym u));
       held = λ p x st. absurd (true≢false (sym st));
-      hands = λ n t e. absurd (let z : ◌≡◌ {A = ℕ} 0 1 = cc in omega arith);
+      hands = λ n t e. absurd cc;
     };
   }
     where

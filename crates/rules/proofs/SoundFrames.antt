@@ -1,5 +1,5 @@
 -- Changes that soundness does not see: who waits, who hangs where and who is held are as before, or slots lead to fewer places. Rests on SoundQueues.
-use Rattle.std.proofs.Common.{◌≡◌, ℕ, zero, suc, ◌≤◌, Bool, true, false, ◌⊎◌, length, is_some, Some, None, Option, sym, refl, ap, ◌∙◌, subst, inl, inr, ⊎_elim, true≢false, arith}
+use Rattle.std.proofs.Common.{◌≡◌, ℕ, zero, suc, ◌≤◌, Bool, true, false, ◌⊎◌, length, is_some, Some, None, Option, sym, refl, ap, ◌∙◌, subst, inl, inr, ⊎_elim, true≢false}
 use Rattle.requests.specs.declared.answer.Answer.{Answer}
 use Rattle.requests.specs.Stations.{is_station}
 use Rattle.rules.specs.declared.mode.Mode.{Mode}
@@ -129,7 +129,7 @@ module _ {K T : Type 0} where
   leads-made s (suc p) side f e = go (s.place (suc p)) e
     where
       go : (o : Option (Place K T)) → elim o as (λ _. Slot K) [ None ↦ empty | Some x ↦ slot_on x side ] ≡ leads f → (suc p ≡ 0) ⊎ (is_some o ≡ true)
-      go None u = let z : ◌≡◌ {A = ℕ} 0 1 = cc in absurd (omega arith)
+      go None u = absurd cc
       go (Some x) u = inr refl
 
   -- a slot written on one side
@@ -164,7 +164,7 @@ module _ {K T : Type 0} where
 
 -- empty slots and keys lead nowhere
 pub empty-leads : {K : Type 0} (f : ℕ) → ◌≡◌ {A = Slot K} empty (leads f) → ⊥
-empty-leads f e = let z : ◌≡◌ {A = ℕ} 0 1 = cc in omega arith
+empty-leads f e = absurd cc
 
 pub holds-leads : {K : Type 0} (k : K) (f : ℕ) → holds k ≡ leads f → ⊥
-holds-leads k f e = let z : ◌≡◌ {A = ℕ} 0 1 = cc in omega arith
+holds-leads k f e = absurd cc

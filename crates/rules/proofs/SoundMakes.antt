@@ -15,7 +15,7 @@ use Rattle.rules.proofs.SoundFrames.{none_there, slot-written, leads-made}
 use Rattle.rules.proofs.SoundLeaves.{Mover}
 
 left-right : on_left ≡ on_right → ⊥
-left-right e = let z : ◌≡◌ {A = ℕ} 0 1 = cc in omega arith
+left-right e = absurd cc
 
 module _ {K T : Type 0} where
   -- s' is s with the place t made below p, on one side
@@ -86,7 +86,7 @@ module _ {K T : Type 0} where
       where
         go : (o : Option (Place K T)) → s.place (suc p) ≡ o → elim o as (λ _. Slot K) [ None ↦ empty | Some f ↦ slot_on f (side_of w f k) ] ≡ holds j
             → (side : Side) × Grown s (with_place (elim o [ None ↦ s | Some f ↦ with_place s (suc p) (with_slot_on f (side_of w f k) (leads t)) ]) t fresh) (suc p) side t
-        go None e u = let z : ◌≡◌ {A = ℕ} 0 1 = cc in absurd (omega arith)
+        go None e u = absurd cc
         go (Some f) e u = (side_of w f k, grown_place p (side_of w f k) f e)
 
   module _ {s s' : State K T} {last above : ℕ → ℕ} {p : ℕ} {side : Side} {t : ℕ} (g : Grown s s' p side t) (v : Mover s last above p t)

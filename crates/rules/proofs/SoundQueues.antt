@@ -1,13 +1,13 @@
 -- Rising queues, who stands in them in which mode, and rows with one entry written. Rests on Joins.
 use Rattle.std.proofs.Common.{◌≡◌, ℕ, ◌<◌, ◌≤◌, Bool, true, false, ◌&&◌, eqb, ◌⊎◌, List, [], ◌∷◌, ◌++◌, sym, refl, ◌∙◌, inl, inr, true≢false, arith}
-use Rattle.std.proofs.lemmas.Bool.{eqb-true, eqb-false, eq-eqb}
+use Rattle.std.proofs.lemmas.Bool.{eqb-true, eqb-false, eq-eqb, or_left, or_right, and_parts}
 use Rattle.rules.specs.declared.mode.Mode.{Mode}
 use Rattle.rules.specs.declared.mode.Mode.TheVariants.{Between, From, Upto}
 use Rattle.rules.specs.States.{Waiter}
 use Rattle.rules.specs.Queues.{stands, behind}
 use Rattle.rules.specs.Changes.{put}
 use Rattle.rules.specs.Sound.{same_mode, stands_in, Rises}
-use Rattle.rules.proofs.Bools.{both_true, or_cases, or_left, or_right, and_first, and_second}
+use Rattle.rules.proofs.Bools.{both_true, or_cases}
 use Rattle.rules.proofs.Joins.{stands_append}
 
 -- what holds of the entry written and of the old one holds of the row's
@@ -39,7 +39,7 @@ pub in_stands : (x : ℕ) (m : Mode) (q : List Waiter) → stands_in x m q ≡ t
 in_stands x m [] h = h
 in_stands x m (e ∷ q) h =
     or_cases (eqb e.number x && same_mode e.mode m) (stands_in x m q) h
-    (λ u. or_left (eqb e.number x) (stands x q) (and_first (eqb e.number x) (same_mode e.mode m) u))
+    (λ u. or_left (eqb e.number x) (stands x q) (and_parts (eqb e.number x) (same_mode e.mode m) u).0)
     (λ u. or_right (eqb e.number x) (stands x q) (in_stands x m q u))
 
 -- who stands in a queue stands there in some mode
@@ -65,7 +65,7 @@ stands-joined x q e h =
 pub in_joined : (x : ℕ) (m : Mode) (q : List Waiter) (e : Waiter) → stands_in x m (q ++ (e ∷ [])) ≡ true → (stands_in x m q ≡ true) ⊎ ((e.number ≡ x) × (e.mode ≡ m))
 in_joined x m [] e h =
     let both : (eqb e.number x && same_mode e.mode m) ≡ true = or_cases (eqb e.number x && same_mode e.mode m) false h (λ u. u) (λ u. absurd (true≢false (sym u))) in
-    inr (eqb-true e.number x (and_first (eqb e.number x) (same_mode e.mode m) both), mode_true e.mode m (and_second (eqb e.number x) (same_mode e.mode m) both))
+    inr (eqb-true e.number x (and_parts (eqb e.number x) (same_mode e.mode m) both).0, mode_true e.mode m (and_parts (eqb e.number x) (same_mode e.mode m) both).1)
 in_joined x m (y ∷ q) e h =
     or_cases {P = (stands_in x m (y ∷ q) ≡ true) ⊎ ((e.number ≡ x) × (e.mode ≡ m))} (eqb y.number x && same_mode y.mode m) (stands_in x m (q ++ (e ∷ []))) h
     (λ u. inl (or_left (eqb y.number x && same_mode y.mode m) (stands_in x m q) u))

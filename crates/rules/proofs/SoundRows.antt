@@ -1,10 +1,10 @@
 -- A rising queue is known by who stands in it in which mode. Rests on SoundQueues.
 use Rattle.std.proofs.Common.{◌≡◌, ℕ, ◌<◌, Bool, true, false, ◌&&◌, ◌||◌, eqb, List, [], ◌∷◌, ◌++◌, sym, refl, ap, ◌∙◌, ap₂, true≢false, arith}
-use Rattle.std.proofs.lemmas.Bool.{eqb-true}
+use Rattle.std.proofs.lemmas.Bool.{eqb-true, or_right, and_parts}
 use Rattle.rules.specs.declared.mode.Mode.{Mode}
 use Rattle.rules.specs.States.{Waiter}
 use Rattle.rules.specs.Sound.{same_mode, stands_in, Rises}
-use Rattle.rules.proofs.Bools.{or_cases, or_right, or_false, and_first, and_second}
+use Rattle.rules.proofs.Bools.{or_cases, or_false}
 use Rattle.rules.proofs.SoundQueues.{mode_true, in_stands, head_stands, rises-above}
 
 both_ways_true : (a b : Bool) → (a ≡ true → b ≡ true) → (b ≡ true → a ≡ true) → a ≡ b
@@ -16,7 +16,7 @@ both_ways_true false false f g = refl
 pub in_cases : {P : Type 0} (x : ℕ) (m : Mode) (e : Waiter) (q : List Waiter) → stands_in x m (e ∷ q) ≡ true → (e.number ≡ x → e.mode ≡ m → P) → (stands_in x m q ≡ true → P) → P
 in_cases x m e q h here there =
     or_cases (eqb e.number x && same_mode e.mode m) (stands_in x m q) h
-    (λ u. here (eqb-true e.number x (and_first (eqb e.number x) (same_mode e.mode m) u)) (mode_true e.mode m (and_second (eqb e.number x) (same_mode e.mode m) u)))
+    (λ u. here (eqb-true e.number x (and_parts (eqb e.number x) (same_mode e.mode m) u).0) (mode_true e.mode m (and_parts (eqb e.number x) (same_mode e.mode m) u).1))
     there
 
 -- one more at the end

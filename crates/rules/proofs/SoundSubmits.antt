@@ -1,5 +1,6 @@
 -- A request more, and a request collected, keep soundness. Rests on SoundMoves.
 use Rattle.std.proofs.Common.{◌≡◌, ℕ, zero, suc, ◌<◌, ◌≤◌, true, not, ◌⊎◌, List, [], ◌∷◌, ◌++◌, Some, None, Option, sym, refl, ap, ◌∙◌, subst, inl, inr, ⊎_elim, true≢false, arith, length-append}
+use Rattle.std.proofs.lemmas.Bool.{false_from_ne_true}
 use Rattle.requests.specs.Stations.{is_station}
 use Rattle.requests.specs.declared.request.Request.{Request}
 use Rattle.rules.specs.declared.mode.Mode.{Mode}
@@ -9,7 +10,6 @@ use Rattle.rules.specs.Queues.{given, stands, waits, finished}
 use Rattle.rules.specs.Changes.{put, with_request, with_waiter, with_uncollected}
 use Rattle.rules.specs.Moves.{Side, on_left, on_right}
 use Rattle.rules.specs.Sound.{stands_in, Rises, slot_at, is_made, SoundsBy}
-use Rattle.rules.proofs.Bools.{false_unless}
 use Rattle.rules.proofs.Times.{numbered_append}
 use Rattle.rules.proofs.Finals.{lowest_finds}
 use Rattle.rules.proofs.SoundQueues.{put_cases, in_stands, stands-joined, in_joined, rises-joined}
@@ -19,7 +19,7 @@ some_one : {X : Type 0} (x y : X) → Some x ≡ Some y → x ≡ y
 some_one x y e = cc
 
 none_some : {X : Type 0} (x : X) → ◌≡◌ {A = Option X} None (Some x) → ⊥
-none_some x e = let z : ◌≡◌ {A = ℕ} 0 1 = cc in omega arith
+none_some x e = absurd cc
 
 module _ {K T : Type 0} {s : State K T} {last above : ℕ → ℕ} (h : SoundsBy s last above) where
   module _ (n : ℕ) (r : Request K) (station : is_station n ≡ true) (idle : (s.desk n).uncollected ≡ None) where
@@ -130,7 +130,7 @@ module _ {K T : Type 0} {s : State K T} {last above : ℕ → ℕ} (h : SoundsBy
       at_places = λ q x st. ⊎_elim (λ old. h.at_places q x old) (λ fresh. inl fresh.0) (stood q x st);
       unmade = λ q x st. ⊎_elim
           (λ old. h.unmade q x old)
-          (λ fresh. none_there (s.place x) (false_unless (is_made s x) (λ e. let v = (h.made x e).1 in let is = fresh.1 in omega arith)))
+          (λ fresh. none_there (s.place x) (false_from_ne_true (is_made s x) (λ e. let v = (h.made x e).1 in let is = fresh.1 in omega arith)))
           (stood q x st);
       made = λ f e. let v = h.made f e in (v.0, room f v.1);
       down = λ q side f e. downs q side f (slots q side f e);

@@ -1,11 +1,11 @@
 -- Who stands where: in the gate's queue, in the queues of the tree's places, and the lowest place of all. Rests on Holds and Descents.
 use Rattle.std.proofs.Common.{◌≡◌, ℕ, zero, suc, ◌<◌, ◌≤◌, Bool, true, false, cond, ◌||◌, eqb, List, [], ◌∷◌, Some, None, Option, sym, refl, ap, ◌∙◌, subst, true≢false, arith}
-use Rattle.std.proofs.lemmas.Bool.{eqb-true}
+use Rattle.std.proofs.lemmas.Bool.{eqb-true, or_left, or_right}
 use Rattle.requests.specs.declared.request.Request.{Request}
 use Rattle.rules.specs.Kinds.{Kinds}
 use Rattle.rules.specs.States.{Place, Waiter}
 use Rattle.rules.specs.Queues.{lowest, stands}
-use Rattle.rules.proofs.Bools.{or_cases, or_left, or_right}
+use Rattle.rules.proofs.Bools.{or_cases}
 use Rattle.rules.proofs.Trees.{Tree, bare, leaf, node, inside, Drawn}
 use Rattle.rules.proofs.Goods.{below, Lined, left_of, right_of, Good}
 use Rattle.rules.proofs.Joins.{stands-between}
@@ -16,12 +16,12 @@ use Rattle.rules.proofs.Descents.{in_turn_end}
 
 -- the lowest number that passes is below the bound and passes
 pub lowest_passes : (test : ℕ → Bool) (b p : ℕ) → lowest test b ≡ Some p → (p < b) × (test p ≡ true)
-lowest_passes test zero p e = let z : ◌≡◌ {A = ℕ} 0 1 = cc in absurd (omega arith)
+lowest_passes test zero p e = absurd cc
 lowest_passes test (suc b) p e = go (lowest_passes test b p) (lowest test b) refl e
   where
     last : (c : Bool) → test b ≡ c → cond c (Some b) None ≡ Some p → (p < suc b) × (test p ≡ true)
     last true f u = let same : b ≡ p = cc in (omega arith, ap test (sym same) ∙ f)
-    last false f u = let z : ◌≡◌ {A = ℕ} 0 1 = cc in absurd (omega arith)
+    last false f u = absurd cc
 
     go : (lowest test b ≡ Some p → (p < b) × (test p ≡ true)) → (o : Option ℕ) → lowest test b ≡ o
         → elim o as (λ _. Option ℕ) [ Some i ↦ Some i | None ↦ cond (test b) (Some b) None ] ≡ Some p → (p < suc b) × (test p ≡ true)

@@ -1,9 +1,9 @@
 -- All steps of a count at a place, one after another. Rests on Shows.
 use Rattle.std.proofs.Common.{◌≡◌, ℕ, Bool, true, false, ◌||◌, List, [], ◌∷◌, sym, refl, ap, ◌∙◌, subst, true≢false}
+use Rattle.std.proofs.lemmas.Bool.{false_from_ne_true, or_parts}
 use Rattle.rules.specs.Kinds.{Kinds, Lawful}
 use Rattle.rules.specs.States.{State, Place}
 use Rattle.rules.specs.Moves.{on_left, on_right, Step, show, add, with_added, whole, shown, stepped_all}
-use Rattle.rules.proofs.Bools.{or_first, or_second, false_unless}
 use Rattle.rules.proofs.Weights.{neutral-right}
 use Rattle.rules.proofs.Trees.{Tree, slot_of, inside, Drawn, drawn_frame}
 use Rattle.rules.proofs.Children.{count_child}
@@ -59,7 +59,7 @@ module _ {K T : Type 0} (w : Kinds K T) (l : Lawful w) where
   counts_frame : (s s' : State K T) (t : ℕ) (x : T) (touched : ℕ → Bool) (y : Tree K T) → Counts w s s' t x touched → ((i : ℕ) → touched i ≡ true → inside i y ≡ false) → Drawn s.place s.queue y → Drawn s'.place s'.queue y
   counts_frame s s' t x touched y c away d =
       drawn_frame s.place s'.place s.queue s'.queue y
-      (λ i e. (ap (λ g. g i) c.place, c.queue i (false_unless (touched i) (λ h. true≢false (sym e ∙ away i h))))) d
+      (λ i e. (ap (λ g. g i) c.place, c.queue i (false_from_ne_true (touched i) (λ h. true≢false (sym e ∙ away i h))))) d
 
   module _ (t : ℕ) (lo hi : K) (f : Place K T) where
     -- what the steps leave of the state and of the two children
@@ -81,7 +81,7 @@ module _ {K T : Type 0} (w : Kinds K T) (l : Lawful w) where
         let rest = steps_leave xs s' (count_child w t m a) b (ea ∙ sym (slot-count w t m a)) eb (once_count w t m a oa) ob
         (λ i e. ab i (sym (topped_count w t m a i) ∙ e)) (λ i e. inside_count w t m a i ∙ ba i e) drawn-a drawn-b in
         let sums : Counts w s' (stepped_all w s' t lo hi f xs) t (steps_added w lo hi xs a b) (λ i. topped a i || topped b i) = subst (λ v. Counts w s' (stepped_all w s' t lo hi f xs) t v (λ i. topped a i || topped b i)) (steps-left w t m lo hi xs a b) (widen t s' (stepped_all w s' t lo hi f xs) _ (λ i. topped (count_child w t m a) i || topped b i) (λ i. topped a i || topped b i) (λ i e. ap (λ v. v || topped b i) (topped_count w t m a i) ∙ e) rest.0) in
-        (counts_then s s' (stepped_all w s' t lo hi f xs) t (added w lo hi m a) (steps_added w lo hi xs a b) (topped a) (λ i. topped a i || topped b i) (λ i e. or_first (topped a i) (topped b i) e) one sums, rest.1, rest.2)
+        (counts_then s s' (stepped_all w s' t lo hi f xs) t (added w lo hi m a) (steps_added w lo hi xs a b) (topped a) (λ i. topped a i || topped b i) (λ i e. (or_parts (topped a i) (topped b i) e).0) one sums, rest.1, rest.2)
     steps_leave (show on_right m ∷ xs) s a b ea eb oa ob ab ba da db =
         let s' = shown w s t lo hi m f.right in
         let one : Counts w s (shown w s t lo hi m f.right) t (added w lo hi m b) (topped b) = subst (λ z. Counts w s (shown w s t lo hi m z) t (added w lo hi m b) (topped b)) (sym eb) (shown_counts w l t lo hi s m b) in
@@ -90,7 +90,7 @@ module _ {K T : Type 0} (w : Kinds K T) (l : Lawful w) where
         let rest = steps_leave xs s' a (count_child w t m b) ea (eb ∙ sym (slot-count w t m b)) oa (once_count w t m b ob)
         (λ i e. inside_count w t m b i ∙ ab i e) (λ i e. ba i (sym (topped_count w t m b i) ∙ e)) drawn-a drawn-b in
         let sums : Counts w s' (stepped_all w s' t lo hi f xs) t (steps_added w lo hi xs a b) (λ i. topped a i || topped b i) = subst (λ v. Counts w s' (stepped_all w s' t lo hi f xs) t v (λ i. topped a i || topped b i)) (steps-right w t m lo hi xs a b) (widen t s' (stepped_all w s' t lo hi f xs) _ (λ i. topped a i || topped (count_child w t m b) i) (λ i. topped a i || topped b i) (λ i e. ap (λ v. topped a i || v) (topped_count w t m b i) ∙ e) rest.0) in
-        (counts_then s s' (stepped_all w s' t lo hi f xs) t (added w lo hi m b) (steps_added w lo hi xs a b) (topped b) (λ i. topped a i || topped b i) (λ i e. or_second (topped a i) (topped b i) e) one sums, rest.1, rest.2)
+        (counts_then s s' (stepped_all w s' t lo hi f xs) t (added w lo hi m b) (steps_added w lo hi xs a b) (topped b) (λ i. topped a i || topped b i) (λ i e. (or_parts (topped a i) (topped b i) e).1) one sums, rest.1, rest.2)
     steps_leave (add on_left ∷ xs) s a b ea eb oa ob ab ba da db =
         let s' = with_added w s t (whole w s f.left) in
         let one : Counts w s (with_added w s t (whole w s f.left)) t (whole_of w a) (λ i. false) = subst (λ z. Counts w s (with_added w s t (whole w s z)) t (whole_of w a) (λ i. false)) (sym ea) (added_counts w l t lo hi s a da) in

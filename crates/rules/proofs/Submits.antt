@@ -1,6 +1,6 @@
 -- A request more keeps the invariant. Rests on Keeps.
 use Rattle.std.proofs.Common.{◌≡◌, ℕ, suc, ◌≤◌, Bool, true, false, cond, ◌&&◌, eqb, ◌⊎◌, List, [], ◌∷◌, ◌++◌, length, Some, None, Option, sym, refl, ap, ◌∙◌, subst, inl, inr, ⊎_elim, arith, length-append}
-use Rattle.std.proofs.lemmas.Bool.{cases_lt}
+use Rattle.std.proofs.lemmas.Bool.{cases_lt, eqb-true, false_from_ne_true, ne_eqb}
 use Rattle.requests.specs.declared.request.Request.{Request}
 use Rattle.requests.specs.declared.request.Request.TheVariants.{Enter, Withdraw, LookUp, Count}
 use Rattle.rules.specs.declared.mode.Mode.{Mode}
@@ -12,7 +12,7 @@ use Rattle.rules.specs.Queues.{numbered, given}
 use Rattle.rules.specs.Changes.{with_request, with_waiter, with_uncollected}
 use Rattle.rules.specs.Moves.{wanted}
 use Rattle.rules.specs.Carries.{sought, says, later, last_word}
-use Rattle.rules.proofs.Bools.{bool_map, false_unless}
+use Rattle.rules.proofs.Bools.{bool_map}
 use Rattle.rules.proofs.Times.{numbered_within, numbered_append}
 use Rattle.rules.proofs.Befores.{was, before_append}
 use Rattle.rules.proofs.Trees.{Tree, bare, leaf, node, inside}
@@ -20,7 +20,7 @@ use Rattle.rules.proofs.Goods.{below, Lined, left_of, right_of, WaiterFits, Queu
 use Rattle.rules.proofs.Later.{lined_below}
 use Rattle.rules.proofs.Insides.{inside_over}
 use Rattle.rules.proofs.Pends.{share, queue_share, pending, OnWay}
-use Rattle.rules.proofs.Puts.{put-here, put_other, apart_eqb, eqb_eq, drawn-put-queue}
+use Rattle.rules.proofs.Puts.{put-here, put_other, drawn-put-queue}
 use Rattle.rules.proofs.Holds.{InTurn, Everywhere, Bears, Holds}
 use Rattle.rules.proofs.Descents.{in_turn_end}
 
@@ -124,7 +124,7 @@ module _ {K T : Type 0} (w : Kinds K T) (l : Lawful w) (rs : List (Request K)) (
   near = in_turn_end time (s.queue 0) (suc (length rs)) h.gate
 
   no_gate : inside 0 x ≡ false
-  no_gate = false_unless (inside 0 x) (λ e. let o = inside_over w rs (Everywhere w rs) time x 0 0 h.good h.over e in omega arith)
+  no_gate = false_from_ne_true (inside 0 x) (λ e. let o = inside_over w rs (Everywhere w rs) time x 0 0 h.good h.over e in omega arith)
 
   -- an older request is as it was
   old : (i : ℕ) (r₁ : Request K) → i ≤ length rs → numbered (rs ++ (r ∷ [])) i ≡ Some r₁ → numbered rs i ≡ Some r₁
@@ -148,7 +148,7 @@ module _ {K T : Type 0} (w : Kinds K T) (l : Lawful w) (rs : List (Request K)) (
     requests = ap (λ v. v ++ (r ∷ [])) h.requests;
     rooted = h.rooted;
     drawn = drawn-put-queue s.place s.queue x 0 _ no_gate h.drawn;
-    others = λ i out. ((h.others i out).0, λ z. put_other s.queue 0 _ i (apart_eqb i 0 (λ e. omega arith)) ∙ (h.others i out).1 z);
+    others = λ i out. ((h.others i out).0, λ z. put_other s.queue 0 _ i (ne_eqb i 0 (λ e. omega arith)) ∙ (h.others i out).1 z);
     over = h.over;
     gate = subst (λ m. InTurn time (after_submit.queue 0) (suc m)) (sym longer) (subst (λ q. InTurn time q (suc (suc (length rs)))) (sym (put-here s.queue 0 _)) (subst (λ m. InTurn time (s.queue 0 ++ (record { number = suc m; mode = Between } ∷ [])) (suc (suc (length rs)))) (sym count_is) (in_turn_append time (s.queue 0) (suc (length rs)) Between h.gate)));
     started = h.started;
@@ -170,5 +170,5 @@ module _ {K T : Type 0} (w : Kinds K T) (l : Lawful w) (rs : List (Request K)) (
       note_kept i = go (eqb i n) refl
         where
           go : (b : Bool) → eqb i n ≡ b → (after_submit.desk i).note ≡ (s.desk i).note
-          go true e = ap (λ v. (cond v (record { note = (s.desk n).note; uncollected = Some next }) (s.desk i)).note) e ∙ ap (λ j. (s.desk j).note) (sym (eqb_eq i n e))
+          go true e = ap (λ v. (cond v (record { note = (s.desk n).note; uncollected = Some next }) (s.desk i)).note) e ∙ ap (λ j. (s.desk j).note) (sym (eqb-true i n e))
           go false e = ap (λ v. (cond v (record { note = (s.desk n).note; uncollected = Some next }) (s.desk i)).note) e

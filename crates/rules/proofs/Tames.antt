@@ -1,5 +1,6 @@
 -- What no move changes: requests, decisions, stations, other requests' answers; and queues elsewhere only grow. Rests on Meets.
 use Rattle.std.proofs.Common.{◌≡◌, ℕ, zero, suc, Bool, true, false, cond, eqb, List, [], ◌∷◌, ◌++◌, Some, None, Option, sym, refl, ap, ◌∙◌, true≢false, append_assoc}
+use Rattle.std.proofs.lemmas.Bool.{eqb-true}
 use Rattle.std.proofs.lemmas.List.{append-nil}
 use Rattle.requests.specs.declared.answer.Answer.{Answer}
 use Rattle.requests.specs.declared.request.Request.{Request}
@@ -11,7 +12,7 @@ use Rattle.rules.specs.States.{State, Slot, Place, Waiter, empty, holds, leads}
 use Rattle.rules.specs.Queues.{heads}
 use Rattle.rules.specs.Changes.{put, with_answer, with_counted, with_gate, with_place, with_waiter}
 use Rattle.rules.specs.Moves.{Step, show, add, slot_on, with_slot_on, side_of, with_tally, is_present, slot_for, with_slot_for, enter_at, withdraw_at, shown, stepped, stepped_all, count_steps, count_at, acted}
-use Rattle.rules.proofs.Puts.{put_other, eqb_eq}
+use Rattle.rules.proofs.Puts.{put_other}
 use Rattle.rules.proofs.Meets.{Rest}
 
 module _ {K T : Type 0} where
@@ -85,7 +86,7 @@ module _ {K T : Type 0} where
   }
     where
       go : (j : ℕ) (b : Bool) → eqb j p ≡ b → (more : List Waiter) × (put s.queue p (s.queue p ++ (record { number = i; mode = m } ∷ [])) j ≡ s.queue j ++ more)
-      go j true e = ((record { number = i; mode = m } ∷ []), rw e (ap (λ k. s.queue k ++ (record { number = i; mode = m } ∷ [])) (sym (eqb_eq j p e))))
+      go j true e = ((record { number = i; mode = m } ∷ []), rw e (ap (λ k. s.queue k ++ (record { number = i; mode = m } ∷ [])) (sym (eqb-true j p e))))
       go j false e = ([], rw e (sym (append-nil (s.queue j))))
 
 module _ {K T : Type 0} (w : Kinds K T) (t : ℕ) where

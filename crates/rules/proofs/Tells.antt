@@ -1,12 +1,13 @@
 -- A slot or a queue read for a decision tells what was: at the gate, and on the way down. Rests on Holds.
 use Rattle.std.proofs.Common.{◌≡◌, ℕ, zero, suc, ◌<◌, ◌≤◌, Bool, true, false, cond, not, eqb, List, [], ◌∷◌, length, Some, None, Option, sym, refl, ap, ◌∙◌, subst, inl, inr, ⊎_elim, true≢false, arith}
+use Rattle.std.proofs.lemmas.Bool.{false_from_ne_true, ne_eqb, or_from}
 use Rattle.requests.specs.declared.request.Request.{Request}
 use Rattle.rules.specs.Kinds.{Kinds, Lawful, same, before}
 use Rattle.rules.specs.States.{State, Slot, Place, Waiter, empty, holds, leads}
 use Rattle.rules.specs.Queues.{numbered, stands}
 use Rattle.rules.specs.Moves.{on_left, on_right, slot_on, side_of, slot_for}
 use Rattle.rules.specs.Carries.{sought, says, later, last_word}
-use Rattle.rules.proofs.Bools.{both_true, or_neither, false_unless}
+use Rattle.rules.proofs.Bools.{both_true}
 use Rattle.rules.proofs.Order.{same_sym}
 use Rattle.rules.proofs.Times.{told, numbered_some}
 use Rattle.rules.proofs.Befores.{was, Unmoved, was_next, was_steady}
@@ -14,7 +15,6 @@ use Rattle.rules.proofs.Trees.{Tree, bare, leaf, node, slot_of, inside, drawn_pl
 use Rattle.rules.proofs.Goods.{below, Lined, Over, left_of, right_of, PlaceGood, Good}
 use Rattle.rules.proofs.Later.{lined_below}
 use Rattle.rules.proofs.Pends.{OnWay}
-use Rattle.rules.proofs.Puts.{apart_eqb}
 use Rattle.rules.proofs.Effects.{slot_for-made}
 use Rattle.rules.proofs.Holds.{Everywhere, Walks, Holds}
 use Rattle.rules.proofs.Insides.{inside_over}
@@ -38,12 +38,12 @@ later_tells w None (Some d) old = refl
 between_out : (i x : ℕ) (q : List Waiter) (t : ℕ) → Lined x q t → i ≤ x → stands i q ≡ false
 between_out i x [] t d h = refl
 between_out i x (y ∷ q) t d h =
-    or_neither (eqb y.number i) (stands i q) (apart_eqb y.number i (λ e. omega (arith, d.0))) (between_out i y.number q t d.1 (omega (arith, d.0)))
+    or_from (eqb y.number i) (stands i q) (ne_eqb y.number i (λ e. omega (arith, d.0))) (between_out i y.number q t d.1 (omega (arith, d.0)))
 
 next_out : (i x : ℕ) (q : List Waiter) (t : ℕ) → Lined x q t → i < below q t → stands i q ≡ false
 next_out i x [] t d h = refl
 next_out i x (y ∷ q) t d h =
-    or_neither (eqb y.number i) (stands i q) (apart_eqb y.number i (λ e. omega arith)) (between_out i y.number q t d.1 (omega arith))
+    or_from (eqb y.number i) (stands i q) (ne_eqb y.number i (λ e. omega arith)) (between_out i y.number q t d.1 (omega arith))
 
 module _ {K T : Type 0} (w : Kinds K T) (l : Lawful w) (rs : List (Request K)) (k : K) where
   -- along a queue, only those who stand in it may say something of the key
@@ -54,8 +54,8 @@ module _ {K T : Type 0} (w : Kinds K T) (l : Lawful w) (rs : List (Request K)) (
   word_tells lo (e ∷ q) t d n still =
       let far = lined_below e.number q t d.1 in
       let asked = numbered_some rs e.number (omega (arith, d.0)) (omega (arith, far.0, far.1)) in
-      let rest = word_tells e.number q t d.1 n (λ i lo' hi out. still i (omega (arith, far.0)) hi (or_neither (eqb e.number i) (stands i q) (apart_eqb e.number i (λ z. omega (arith, far.0))) out)) in
-      let steady = was_steady w l rs k (suc e.number) (below q t) (omega (arith, far.0)) (λ i lo' hi. still i (omega arith) (omega (arith, far.1)) (or_neither (eqb e.number i) (stands i q) (apart_eqb e.number i (λ z. omega arith)) (next_out i e.number q t d.1 hi))) in
+      let rest = word_tells e.number q t d.1 n (λ i lo' hi out. still i (omega (arith, far.0)) hi (or_from (eqb e.number i) (stands i q) (ne_eqb e.number i (λ z. omega (arith, far.0))) out)) in
+      let steady = was_steady w l rs k (suc e.number) (below q t) (omega (arith, far.0)) (λ i lo' hi. still i (omega arith) (omega (arith, far.1)) (or_from (eqb e.number i) (stands i q) (ne_eqb e.number i (λ z. omega arith)) (next_out i e.number q t d.1 hi))) in
       rest
       ∙ ap (by_word (last_word w rs k q)) (steady ∙ was_next w l rs e.number asked.0 k asked.1)
       ∙ later_tells w (last_word w rs k q) (says w k asked.0) (was w rs e.number k)
@@ -71,13 +71,13 @@ module _ {K T : Type 0} (w : Kinds K T) (l : Lawful w) (rs : List (Request K)) (
   SlotTells z t = (z ≡ empty → was w rs t k ≡ false) × ((j : K) → z ≡ holds j → same w j k ≡ was w rs t k)
 
   slot_tells : (R : K → Bool) (t : ℕ) (x : Tree K T) → R k ≡ true → Good w rs R t x → SlotTells (slot_of x) t
-  slot_tells R t bare here g = (λ e. g k here, λ j e. absurd (let z : ◌≡◌ {A = ℕ} 0 1 = cc in omega arith))
+  slot_tells R t bare here g = (λ e. g k here, λ j e. absurd cc)
   slot_tells R t (leaf i) here g = (
-    λ e. absurd (let z : ◌≡◌ {A = ℕ} 0 1 = cc in omega arith),
+    λ e. absurd cc,
     λ j e. let is : i ≡ j = cc in same_sym w l j k ∙ ap (same w k) (sym is) ∙ sym (g.1 k here),
   )
   slot_tells R t (node f s v q a b) here g =
-      (λ e. absurd (let z : ◌≡◌ {A = ℕ} 0 1 = cc in omega arith), λ j e. absurd (let z : ◌≡◌ {A = ℕ} 0 1 = cc in omega arith))
+      (λ e. absurd cc, λ j e. absurd cc)
 
   -- on the way of the key down to place p: what is told there is what was above
   module _ (place : ℕ → Option (Place K T)) (queue : ℕ → List Waiter) where
@@ -92,8 +92,8 @@ module _ {K T : Type 0} (w : Kinds K T) (l : Lawful w) (rs : List (Request K)) (
       pub way : last_word w rs k (queue p) ≡ None → (f : ℕ) → slot_on (drawn_place split tally left right) (side_of w (drawn_place split tally left right) k) ≡ leads f → OnWay w rs k f x × (p < f)
 
     top_way : (p f : ℕ) (x : Tree K T) → slot_of x ≡ leads f → Over p x → OnWay w rs k f x × (p < f)
-    top_way p f bare e o = absurd (let z : ◌≡◌ {A = ℕ} 0 1 = cc in omega arith)
-    top_way p f (leaf j) e o = absurd (let z : ◌≡◌ {A = ℕ} 0 1 = cc in omega arith)
+    top_way p f bare e o = absurd cc
+    top_way p f (leaf j) e o = absurd cc
     top_way p f (node i s v q a b) e o = let is : f ≡ i = cc in (inl is, omega arith)
 
     told_here : (R : K → Bool) (now : ℕ) (p : ℕ) (s : K) (v : T) (q : List Waiter) (a b : Tree K T) → now ≤ suc (length rs) → R k ≡ true → Good w rs R now (node p s v q a b) → Drawn place queue (node p s v q a b) → ToldAt p R now (node p s v q a b)
@@ -185,7 +185,7 @@ reads_walk {K = K} {T = T} w l rs x time s h t p walk = go p walk.way
     then_now = ap (λ i. was w rs i key) walk.head
 
     no_gate : inside 0 x ≡ false
-    no_gate = false_unless (inside 0 x) (λ e. let o = inside_over w rs (Everywhere w rs) time x 0 0 h.good h.over e in omega arith)
+    no_gate = false_from_ne_true (inside 0 x) (λ e. let o = inside_over w rs (Everywhere w rs) time x 0 0 h.good h.over e in omega arith)
 
     go : (p : ℕ) → OnWay w rs key p x
         → ((d : Bool) → last_word w rs key (s.queue p) ≡ Some d → d ≡ was w rs t key)
@@ -197,7 +197,7 @@ reads_walk {K = K} {T = T} w l rs x time s h t p walk = go p walk.way
         absurd (clash (sym at.made ∙ (h.others 0 no_gate).0))
       where
         clash : {X : Type 0} {y : X} → Some y ≡ None → ⊥
-        clash c = let z : ◌≡◌ {A = ℕ} 0 1 = cc in omega arith
+        clash c = absurd cc
     go (suc p₀) way =
         let at = told_on_way w l rs key s.place s.queue (Everywhere w rs) time x (suc p₀) near refl h.good h.drawn way in
         let read = slot_for-made w s p₀ key (drawn_place at.split at.tally at.left at.right) at.made in (

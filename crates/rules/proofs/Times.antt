@@ -19,8 +19,8 @@ numbered_some (x ∷ xs) (suc zero) h k = (x, refl)
 numbered_some (x ∷ xs) (suc (suc t)) h k = numbered_some xs (suc t) (omega arith) (omega arith)
 
 pub numbered_within : {X : Type 0} (xs : List X) (t : ℕ) (x : X) → numbered xs t ≡ Some x → (0 < t) × (t ≤ length xs)
-numbered_within [] t x e = let z : ◌≡◌ {A = ℕ} 0 1 = cc in absurd (omega arith)
-numbered_within (y ∷ xs) zero x e = let z : ◌≡◌ {A = ℕ} 0 1 = cc in absurd (omega arith)
+numbered_within [] t x e = absurd cc
+numbered_within (y ∷ xs) zero x e = absurd cc
 numbered_within (y ∷ xs) (suc zero) x e = (omega arith, omega arith)
 numbered_within (y ∷ xs) (suc (suc t)) x e = let ih = numbered_within xs (suc t) x e in (omega arith, omega arith)
 
@@ -63,7 +63,7 @@ module _ {K T : Type 0} (w : Kinds K T) (l : Lawful w) where
   ascends_at rs m = ascends_set_after w l (take m rs)
 
   done_next : (rs : List (Request K)) (m : ℕ) (r : Request K) (ks : List K) → numbered rs (suc m) ≡ Some r → done_all w (take (suc m) rs) ks ≡ done w r (done_all w (take m rs) ks)
-  done_next [] m r ks e = let z : ◌≡◌ {A = ℕ} 0 1 = cc in absurd (omega arith)
+  done_next [] m r ks e = absurd cc
   done_next (x ∷ rs) zero r ks e = let f : x ≡ r = cc in ap (λ y. done w y ks) f
   done_next (x ∷ rs) (suc m) r ks e = done_next rs m r (done w x ks) e
 

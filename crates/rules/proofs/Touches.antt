@@ -1,10 +1,10 @@
 -- A child that a request meets, drawn anew. Rests on Hangs.
 use Rattle.std.proofs.Common.{◌≡◌, ℕ, Bool, false, List, [], ◌∷◌, ◌++◌, Some, Option, ap, ◌∙◌, arith}
+use Rattle.std.proofs.lemmas.Bool.{false_from_ne_true}
 use Rattle.requests.specs.declared.request.Request.{Request}
 use Rattle.rules.specs.Kinds.{Kinds}
 use Rattle.rules.specs.States.{Place, Waiter}
 use Rattle.rules.specs.Changes.{put}
-use Rattle.rules.proofs.Bools.{false_unless}
 use Rattle.rules.proofs.Trees.{Tree, node, inside, drawn_place, Drawn}
 use Rattle.rules.proofs.Goods.{below, left_of, right_of, Good}
 use Rattle.rules.proofs.Insides.{inside_over}
@@ -33,8 +33,8 @@ module _ {K T : Type 0} (pl : ℕ → Option (Place K T)) (qu : ℕ → List Wai
 -- a place hangs in neither of its own children
 pub top_left : {K T : Type 0} (w : Kinds K T) (rs : List (Request K)) (R : K → Bool) (now f : ℕ) (s : K) (t : T) (q : List Waiter) (a b : Tree K T) → Good w rs R now (node f s t q a b) → inside f a ≡ false
 top_left w rs R now f s t q a b g =
-    false_unless (inside f a) (λ e. let o = inside_over w rs (left_of w R s) (below q now) a f f g.2 g.1.0 e in omega arith)
+    false_from_ne_true (inside f a) (λ e. let o = inside_over w rs (left_of w R s) (below q now) a f f g.2 g.1.0 e in omega arith)
 
 pub top_right : {K T : Type 0} (w : Kinds K T) (rs : List (Request K)) (R : K → Bool) (now f : ℕ) (s : K) (t : T) (q : List Waiter) (a b : Tree K T) → Good w rs R now (node f s t q a b) → inside f b ≡ false
 top_right w rs R now f s t q a b g =
-    false_unless (inside f b) (λ e. let o = inside_over w rs (right_of w R s) (below q now) b f f g.3 g.1.1 e in omega arith)
+    false_from_ne_true (inside f b) (λ e. let o = inside_over w rs (right_of w R s) (below q now) b f f g.3 g.1.1 e in omega arith)

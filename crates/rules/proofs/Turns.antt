@@ -1,6 +1,6 @@
 -- A turn of the serving station lowers the potential, and no call of another raises it. Rests on Measures and Lessens.
 use Rattle.std.proofs.Common.{◌≡◌, ℕ, suc, ◌<◌, ◌≤◌, Bool, true, false, not, ◌&&◌, leb, List, is_some, Some, None, Option, sym, refl, ap, ◌∙◌, subst, true≢false, arith}
-use Rattle.std.proofs.lemmas.Bool.{and_parts, and_right}
+use Rattle.std.proofs.lemmas.Bool.{and_parts, and_right, false_from_ne_true}
 use Rattle.requests.specs.declared.request.Request.{Request}
 use Rattle.rules.specs.declared.note.Note.{Note}
 use Rattle.rules.specs.declared.note.Note.TheVariants as note
@@ -9,7 +9,6 @@ use Rattle.rules.specs.States.{State}
 use Rattle.rules.specs.Queues.{numbered, heads, given}
 use Rattle.rules.specs.Changes.{with_note, with_decision}
 use Rattle.rules.specs.Calls.{has_note}
-use Rattle.rules.proofs.Bools.{false_unless}
 use Rattle.rules.proofs.Times.{numbered_some}
 use Rattle.rules.proofs.Trees.{Tree}
 use Rattle.rules.proofs.Puts.{put-here}
@@ -78,12 +77,11 @@ module _ {K T : Type 0} (w : Kinds K T) (rs : List (Request K)) (s : State K T) 
       note-here s note.None,
       tt,
       saw_lapses (λ i. visits time i x) (undecided s time) (λ r p. heads r (s.queue p)) (λ r p. heads r (s.queue p)) t r p
-          (false_unless (heads r (s.queue p)) (λ u.
+          (false_from_ne_true (heads r (s.queue p)) (λ u.
           let num = numbered_some s.requests r v.0 (omega (arith, v.1)) in
           let none = e u in
           let some = num.1 in
-          let z : ◌≡◌ {A = ℕ} 0 1 = cc in
-          omega arith)),
+          absurd cc)),
     )
     lapse_lowers (note.Walk r p) has v e = (
       note.None,

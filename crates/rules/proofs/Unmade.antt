@@ -1,17 +1,17 @@
 -- A request that waits in the tree has made no place yet, and belongs where it waits. Rests on Insides.
 use Rattle.std.proofs.Common.{◌≡◌, ℕ, ◌<◌, ◌≤◌, Bool, true, false, ◌||◌, eqb, List, [], ◌∷◌, Some, Option, sym, refl, ap, ◌∙◌, subst, true≢false, arith}
+use Rattle.std.proofs.lemmas.Bool.{eqb-true, false_from_ne_true, ne_eqb, or_from, or_left, or_right}
 use Rattle.requests.specs.declared.request.Request.{Request}
 use Rattle.requests.specs.declared.request.Request.TheVariants.{Enter}
 use Rattle.rules.specs.Kinds.{Kinds}
 use Rattle.rules.specs.States.{Place, Waiter}
 use Rattle.rules.specs.Queues.{numbered, stands}
-use Rattle.rules.proofs.Bools.{or_cases, or_left, or_right, or_neither, false_unless}
+use Rattle.rules.proofs.Bools.{or_cases}
 use Rattle.rules.proofs.Trees.{Tree, bare, leaf, node, inside, Drawn}
 use Rattle.rules.proofs.Goods.{below, Lined, Over, left_of, right_of, WaiterFits, QueueFits, Good}
 use Rattle.rules.proofs.Later.{left_in, right_in, lined_below}
 use Rattle.rules.proofs.Joins.{stands-between}
 use Rattle.rules.proofs.Pends.{waiting}
-use Rattle.rules.proofs.Puts.{apart_eqb, eqb_eq}
 use Rattle.rules.proofs.Insides.{inside_cases, inside_maker, makers_apart}
 
 -- who stands in a row of numbers is not before its head
@@ -19,7 +19,7 @@ head_first : (i lo : ℕ) (q : List Waiter) (t : ℕ) → Lined lo q t → stand
 head_first i lo [] t d h = absurd (true≢false (sym h))
 head_first i lo (e ∷ q) t d h =
     or_cases (eqb e.number i) (stands i q) h
-    (λ here. let same : e.number ≡ i = eqb_eq e.number i here in omega arith)
+    (λ here. let same : e.number ≡ i = eqb-true e.number i here in omega arith)
     (λ there. let b = stands-between i e.number q t d.1 there in omega (arith, b.0))
 
 module _ {K T : Type 0} where
@@ -37,7 +37,7 @@ module _ {K T : Type 0} where
       let one = waiting-at pl qu a p i d.2 in
       let two = waiting-at pl qu b p i d.3 in
       or_cases (eqb p f) (inside p a || inside p b) e
-      (λ x. or_left (stands i q) (waiting i a || waiting i b) (ap (stands i) (sym d.1) ∙ ap (λ j. stands i (qu j)) (sym (eqb_eq p f x)) ∙ h))
+      (λ x. or_left (stands i q) (waiting i a || waiting i b) (ap (stands i) (sym d.1) ∙ ap (λ j. stands i (qu j)) (sym (eqb-true p f x)) ∙ h))
       (λ x. or_right (stands i q) (waiting i a || waiting i b) (or_cases (inside p a) (inside p b) x (λ y. or_left (waiting i a) (waiting i b) (one y h)) (λ y. or_right (waiting i a) (waiting i b) (two y h))))
 
 module _ {K T : Type 0} (w : Kinds K T) (rs : List (Request K)) where
@@ -67,7 +67,7 @@ module _ {K T : Type 0} (w : Kinds K T) (rs : List (Request K)) where
   fits-key R (e ∷ q) i k num f h =
       let rest = fits-key R q i k num f.1 in
       or_cases (eqb e.number i) (stands i q) h
-      (λ here. let fit : WaiterFits w rs R e.number e.mode (Some (Enter k)) = subst (WaiterFits w rs R e.number e.mode) (ap (numbered rs) (eqb_eq e.number i here) ∙ num) f.0 in fit.0)
+      (λ here. let fit : WaiterFits w rs R e.number e.mode (Some (Enter k)) = subst (WaiterFits w rs R e.number e.mode) (ap (numbered rs) (eqb-true e.number i here) ∙ num) f.0 in fit.0)
       rest
 
   -- an enter that waits has its key in the region
@@ -90,15 +90,15 @@ module _ {K T : Type 0} (w : Kinds K T) (rs : List (Request K)) where
       waiting_cases i p s t q a b e
       (λ h. let far = stands-between i p q now g.0.lined h in
       let first = head_first i p q now g.0.lined h in
-      neither (apart_eqb i p (λ z. omega (arith, far.0)))
-      (false_unless (inside i a) (λ z. let y = inside_before (left_of w R s) (below q now) a i g.2 z in omega arith))
-      (false_unless (inside i b) (λ z. let y = inside_before (right_of w R s) (below q now) b i g.3 z in omega arith)))
-      (λ h. neither (apart_eqb i p (λ z. let y = waiting_over (left_of w R s) (below q now) a p i g.2 g.1.0 h in omega arith))
+      neither (ne_eqb i p (λ z. omega (arith, far.0)))
+      (false_from_ne_true (inside i a) (λ z. let y = inside_before (left_of w R s) (below q now) a i g.2 z in omega arith))
+      (false_from_ne_true (inside i b) (λ z. let y = inside_before (right_of w R s) (below q now) b i g.3 z in omega arith)))
+      (λ h. neither (ne_eqb i p (λ z. let y = waiting_over (left_of w R s) (below q now) a p i g.2 g.1.0 h in omega arith))
       (one h)
-      (false_unless (inside i b) (λ z. makers_apart w rs R s i (k, num, waiting-key (left_of w R s) (below q now) a i k num g.2 h) (inside_maker w rs (right_of w R s) (below q now) b i g.3 z))))
-      (λ h. neither (apart_eqb i p (λ z. let y = waiting_over (right_of w R s) (below q now) b p i g.3 g.1.1 h in omega arith))
-      (false_unless (inside i a) (λ z. makers_apart w rs R s i (inside_maker w rs (left_of w R s) (below q now) a i g.2 z) (k, num, waiting-key (right_of w R s) (below q now) b i k num g.3 h)))
+      (false_from_ne_true (inside i b) (λ z. makers_apart w rs R s i (k, num, waiting-key (left_of w R s) (below q now) a i k num g.2 h) (inside_maker w rs (right_of w R s) (below q now) b i g.3 z))))
+      (λ h. neither (ne_eqb i p (λ z. let y = waiting_over (right_of w R s) (below q now) b p i g.3 g.1.1 h in omega arith))
+      (false_from_ne_true (inside i a) (λ z. makers_apart w rs R s i (inside_maker w rs (left_of w R s) (below q now) a i g.2 z) (k, num, waiting-key (right_of w R s) (below q now) b i k num g.3 h)))
       (two h))
     where
       neither : eqb i p ≡ false → inside i a ≡ false → inside i b ≡ false → inside i (node p s t q a b) ≡ false
-      neither u v z = or_neither (eqb i p) (inside i a || inside i b) u (or_neither (inside i a) (inside i b) v z)
+      neither u v z = or_from (eqb i p) (inside i a || inside i b) u (or_from (inside i a) (inside i b) v z)

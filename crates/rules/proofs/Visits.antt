@@ -1,11 +1,11 @@
 -- How many places a request may still come to: the places below where it waits, and the places that are not made yet. Rests on Insides.
 use Rattle.std.proofs.Common.{◌≡◌, ℕ, zero, suc, pred, ◌+◌, ◌<◌, ◌≤◌, Bool, true, false, cond, not, ◌&&◌, ◌||◌, eqb, ltb, leb, List, [], ◌∷◌, sym, refl, ap, ◌∙◌, true≢false, arith}
-use Rattle.std.proofs.lemmas.Bool.{and_parts, eqb-true}
+use Rattle.std.proofs.lemmas.Bool.{and_parts, eqb-true, false_from_ne_true}
 use Rattle.requests.specs.declared.request.Request.{Request}
 use Rattle.rules.specs.Kinds.{Kinds}
 use Rattle.rules.specs.States.{Waiter}
 use Rattle.rules.specs.Queues.{stands}
-use Rattle.rules.proofs.Bools.{or_cases, false_unless}
+use Rattle.rules.proofs.Bools.{or_cases}
 use Rattle.rules.proofs.Trees.{Tree, bare, leaf, node, inside}
 use Rattle.rules.proofs.Goods.{below, Lined, Over, left_of, right_of, Good}
 use Rattle.rules.proofs.Later.{lined_below}
@@ -166,14 +166,14 @@ module _ {K T : Type 0} (w : Kinds K T) (rs : List (Request K)) where
       omega arith
     where
       apart : (i : ℕ) → (inside i a && inside i b) ≡ false
-      apart i = false_unless (inside i a && inside i b) (λ e.
+      apart i = false_from_ne_true (inside i a && inside i b) (λ e.
           let both = and_parts (inside i a) (inside i b) e in
           makers_apart w rs R s i
           (inside_maker w rs (left_of w R s) (below q now) a i g.2 both.0)
           (inside_maker w rs (right_of w R s) (below q now) b i g.3 both.1))
 
       alone : (i : ℕ) → (eqb i p && (inside i a || inside i b)) ≡ false
-      alone i = false_unless (eqb i p && (inside i a || inside i b)) (λ e.
+      alone i = false_from_ne_true (eqb i p && (inside i a || inside i b)) (λ e.
           let both = and_parts (eqb i p) (inside i a || inside i b) e in
           let same = eqb-true i p both.0 in
           or_cases (inside i a) (inside i b) both.1

@@ -1,10 +1,10 @@
 -- The place of a walk: it hangs in the tree, and was made before the request that seeks its decision. Rests on Holds and Insides.
 use Rattle.std.proofs.Common.{◌≡◌, ℕ, ◌<◌, Bool, true, cond, ◌||◌, eqb, List, sym, ⊎_elim, true≢false, arith}
-use Rattle.std.proofs.lemmas.Bool.{eq-eqb}
+use Rattle.std.proofs.lemmas.Bool.{eq-eqb, or_left, or_right}
 use Rattle.requests.specs.declared.request.Request.{Request}
 use Rattle.rules.specs.Kinds.{Kinds, before}
 use Rattle.rules.specs.States.{State}
-use Rattle.rules.proofs.Bools.{or_left, or_right, bool_case}
+use Rattle.rules.proofs.Bools.{bool_case}
 use Rattle.rules.proofs.Trees.{Tree, bare, leaf, node, inside}
 use Rattle.rules.proofs.Goods.{below, left_of, right_of, Good}
 use Rattle.rules.proofs.Later.{lined_below}

@@ -1,6 +1,8 @@
 // What a carry answers, and the word for each.
-ghost use Rattle.std.specs.Prelude.{◌≡◌};
+ghost use Rattle.std.specs.Prelude.{◌≡◌, Some};
 ghost use Rattle.rules.specs.Words.{carried_word};
+
+use std::fmt;
 
 #[derive(Clone, Copy, PartialEq, Eq, Debug)]
 pub enum Carried {
@@ -24,5 +26,13 @@ impl Carried {
             Carried::Walking => "walking",
             Carried::Moved => "moved",
         }
+    }
+}
+
+impl fmt::Display for Carried {
+    ghost output = { λ x. Some (carried_word x) };
+
+    fn fmt<W: fmt::Write>(&self, f: &mut fmt::Formatter<W>) -> fmt::Result {
+        f.write_str(self.word())
     }
 }

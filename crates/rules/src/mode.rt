@@ -1,6 +1,8 @@
 // How much of a count is still open at a place, and the word for each.
-ghost use Rattle.std.specs.Prelude.{◌≡◌};
+ghost use Rattle.std.specs.Prelude.{◌≡◌, Some};
 ghost use Rattle.rules.specs.Words.{mode_word};
+
+use std::fmt;
 
 #[derive(Clone, Copy, PartialEq, Eq, Debug)]
 pub enum Mode {
@@ -21,5 +23,13 @@ impl Mode {
             Mode::From => "from",
             Mode::Upto => "upto",
         }
+    }
+}
+
+impl fmt::Display for Mode {
+    ghost output = { λ x. Some (mode_word x) };
+
+    fn fmt<W: fmt::Write>(&self, f: &mut fmt::Formatter<W>) -> fmt::Result {
+        f.write_str(self.word())
     }
 }

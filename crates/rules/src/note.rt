@@ -1,6 +1,8 @@
 // What a station has noted for its next carry.
-ghost use Rattle.std.specs.Prelude.{◌≡◌};
+ghost use Rattle.std.specs.Prelude.{◌≡◌, Some};
 ghost use Rattle.rules.specs.Words.{note_word};
+
+use std::fmt;
 
 #[derive(Clone, Copy, PartialEq, Eq, Debug)]
 pub enum Note {
@@ -20,5 +22,13 @@ impl Note {
             Note::Saw { .. } => "saw",
             Note::Walk { .. } => "walk",
         }
+    }
+}
+
+impl fmt::Display for Note {
+    ghost output = { λ x. Some (note_word x) };
+
+    fn fmt<W: fmt::Write>(&self, f: &mut fmt::Formatter<W>) -> fmt::Result {
+        f.write_str(self.word())
     }
 }

@@ -16,7 +16,7 @@ reads-line line = go (line_words line) refl
   where
     go : (words : Option RouteWords) → line_words line ≡ words → Reads line (line_route line)
     go None e =
-        rw e (inr (refl, λ entry exit class w. let f = written_words line entry exit class w in let z : ◌≡◌ {A = ℕ} 0 1 = cc in omega arith))
+        rw e (inr (refl, λ entry exit class w. let f = written_words line entry exit class w in absurd cc))
     go (Some w) e = by (is_signal w.entry) (is_signal w.exit) refl refl
       where
         by : (a b : Bool) → is_signal w.entry ≡ a → is_signal w.exit ≡ b → Reads line (line_route line)

@@ -1,5 +1,5 @@
 -- The words of a route and its text are one thing in two forms. Rests on Texts and on the pieces of a text.
-use Rattle.std.proofs.Common.{◌≡◌, ℕ, ◌<◌, List, [], ◌∷◌, Some, None, decimal, Option, sym, ap, ◌∙◌, arith}
+use Rattle.std.proofs.Common.{◌≡◌, ℕ, ◌<◌, List, [], ◌∷◌, Some, None, decimal, Option, sym, ap, ◌∙◌}
 use Rattle.octets.specs.Cuts.{pieces}
 use Rattle.octets.proofs.Joins.{joined_by, joined-pieces, pieces_alone, pieces-before}
 use Rattle.keys.specs.declared.class.Class.{Class}
@@ -18,18 +18,18 @@ pub record Three (p q : Option ℕ) (r : Option Class) (w : RouteWords) : Type 0
   pub class : r ≡ Some w.class
 
 pub all_three_parts : (p q : Option ℕ) (r : Option Class) (w : RouteWords) → all_three p q r ≡ Some w → Three p q r w
-all_three_parts None q r w h = let z : ◌≡◌ {A = ℕ} 0 1 = cc in absurd (omega arith)
-all_three_parts (Some e) None r w h = let z : ◌≡◌ {A = ℕ} 0 1 = cc in absurd (omega arith)
-all_three_parts (Some e) (Some x) None w h = let z : ◌≡◌ {A = ℕ} 0 1 = cc in absurd (omega arith)
+all_three_parts None q r w h = absurd cc
+all_three_parts (Some e) None r w h = absurd cc
+all_three_parts (Some e) (Some x) None w h = absurd cc
 all_three_parts (Some e) (Some x) (Some c) w h =
     let same : ◌≡◌ {A = RouteWords} (record { entry = e; exit = x; class = c }) w = cc in
     record { entry = ap (λ v. Some v.entry) same; exit = ap (λ v. Some v.exit) same; class = ap (λ v. Some v.class) same }
 
 -- words that are read are the text of what they say
 row_written : (row : List (List ℕ)) (w : RouteWords) → row_words row ≡ Some w → Written (joined_by 32 row) w.entry w.exit w.class
-row_written [] w h = let z : ◌≡◌ {A = ℕ} 0 1 = cc in absurd (omega arith)
-row_written (a ∷ []) w h = let z : ◌≡◌ {A = ℕ} 0 1 = cc in absurd (omega arith)
-row_written (a ∷ b ∷ []) w h = let z : ◌≡◌ {A = ℕ} 0 1 = cc in absurd (omega arith)
+row_written [] w h = absurd cc
+row_written (a ∷ []) w h = absurd cc
+row_written (a ∷ b ∷ []) w h = absurd cc
 row_written (a ∷ b ∷ c ∷ []) w h =
     let parts = all_three_parts (number_in a) (number_in b) (letter_in c) w h in
     let p = number_text a w.entry parts.entry in
@@ -40,7 +40,7 @@ row_written (a ∷ b ∷ c ∷ []) w h =
       exit_short = number_short b w.exit parts.exit;
       text = rw (p, q, r);
     }
-row_written (a ∷ b ∷ c ∷ d ∷ ds) w h = let z : ◌≡◌ {A = ℕ} 0 1 = cc in absurd (omega arith)
+row_written (a ∷ b ∷ c ∷ d ∷ ds) w h = absurd cc
 
 pub words_written : (line : List ℕ) (w : RouteWords) → line_words line ≡ Some w → Written line w.entry w.exit w.class
 words_written line w h =

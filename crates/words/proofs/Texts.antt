@@ -16,7 +16,7 @@ own : IsNumeralModel (λ ds. all_ascii_digits ds ≡ true) (digits_value 10)
 own = numerals_by_value _ tells_all_ascii_digits
 
 starts_some : (word : List ℕ) → starts_well word ≡ true → 0 < length word
-starts_some [] h = let z : ◌≡◌ {A = ℕ} 0 1 = cc in absurd (omega arith)
+starts_some [] h = absurd cc
 starts_some (c ∷ cs) h = omega arith
 
 starts_zero : (word : List ℕ) → starts_well word ≡ true → get_or word 0 0 ≡ 48 → length word ≡ 1
@@ -38,9 +38,9 @@ figures word n h = go (leb (length word) 5) (starts_well word) (all_ascii_digits
     go true true true p q r =
         let s : Some (digits_value 10 word) ≡ Some n = rw (p, q, r) at h in
         record { short = grind arith; starts = q; digits = r; worth = cc }
-    go true true false p q r = let s : None ≡ Some n = rw (p, q, r) at h in let z : ◌≡◌ {A = ℕ} 0 1 = cc in absurd (omega arith)
-    go true false d p q r = let s : None ≡ Some n = rw (p, q) at h in let z : ◌≡◌ {A = ℕ} 0 1 = cc in absurd (omega arith)
-    go false b d p q r = let s : None ≡ Some n = rw p at h in let z : ◌≡◌ {A = ℕ} 0 1 = cc in absurd (omega arith)
+    go true true false p q r = let s : None ≡ Some n = rw (p, q, r) at h in absurd cc
+    go true false d p q r = let s : None ≡ Some n = rw (p, q) at h in absurd cc
+    go false b d p q r = let s : None ≡ Some n = rw p at h in absurd cc
 
 pub number_short : (word : List ℕ) (n : ℕ) → number_in word ≡ Some n → n < 100000
 number_short word n h =
@@ -100,13 +100,13 @@ letter_of l c h = go (eqb l 77) (eqb l 87) (eqb l 67) (eqb l 83) refl refl refl 
     go false true d s p q r t = let e : Some W ≡ Some c = rw (p, q) at h in let f : W ≡ c = cc in rw (← f) (grind arith)
     go false false true s p q r t = let e : Some C ≡ Some c = rw (p, q, r) at h in let f : C ≡ c = cc in rw (← f) (grind arith)
     go false false false true p q r t = let e : Some S ≡ Some c = rw (p, q, r, t) at h in let f : S ≡ c = cc in rw (← f) (grind arith)
-    go false false false false p q r t = let e : None ≡ Some c = rw (p, q, r, t) at h in let z : ◌≡◌ {A = ℕ} 0 1 = cc in absurd (omega arith)
+    go false false false false p q r t = let e : None ≡ Some c = rw (p, q, r, t) at h in absurd cc
 
 -- the word is the letter of its class
 pub letter_text : (word : List ℕ) (c : Class) → letter_in word ≡ Some c → word ≡ class_letter c ∷ []
-letter_text [] c h = let z : ◌≡◌ {A = ℕ} 0 1 = cc in absurd (omega arith)
+letter_text [] c h = absurd cc
 letter_text (l ∷ []) c h = ap (λ n. n ∷ []) (letter_of l c h)
-letter_text (l ∷ d ∷ ds) c h = let z : ◌≡◌ {A = ℕ} 0 1 = cc in absurd (omega arith)
+letter_text (l ∷ d ∷ ds) c h = absurd cc
 
 pub letter_back : (c : Class) → letter_in (class_letter c ∷ []) ≡ Some c
 letter_back M = refl

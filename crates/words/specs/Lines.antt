@@ -1,6 +1,7 @@
 -- Lines that are routes, by their words.
 use Rattle.std.specs.Prelude.{ℕ, List, [], ◌∷◌, Some, None, Err, Option, Result}
-use Rattle.octets.specs.Cuts.{pieces}
+use Rattle.octets.specs.declared.pieces.Pieces.{Pieces}
+use Rattle.octets.specs.Cuts.{pieces, pieces_of}
 use Rattle.keys.specs.declared.class.Class.{Class}
 use Rattle.keys.specs.declared.refusal.Refusal.{Refusal}
 use Rattle.keys.specs.declared.refusal.Refusal.TheVariants.{NoSuchLine}
@@ -20,6 +21,17 @@ all_three (Some entry) (Some exit) (Some class) = Some (record { entry = entry; 
 -- what three words say of a route
 abbrev pub route_words : List ℕ → List ℕ → List ℕ → Option RouteWords
 route_words entry exit class = all_three (number_in entry) (number_in exit) (letter_in class)
+
+-- the words that are left of a text
+abbrev pub left : Pieces → List (List ℕ)
+left p = pieces_of p.separator p.rest
+
+-- the route that the first three words are
+abbrev pub next_route : List (List ℕ) → Option RouteWords
+next_route [] = None
+next_route (entry ∷ []) = None
+next_route (entry ∷ exit ∷ []) = None
+next_route (entry ∷ exit ∷ class ∷ more) = route_words entry exit class
 
 -- a route is just three words
 abbrev pub row_words : List (List ℕ) → Option RouteWords

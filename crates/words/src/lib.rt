@@ -7,4 +7,4 @@ mod routes;
 
 pub use letters::class_letter;
 pub use numbers::number;
-pub use routes::{RouteWords, read_route, route_words};
+pub use routes::{RouteWords, last_route, next_route, read_route, route_words};

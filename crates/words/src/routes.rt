@@ -1,7 +1,7 @@
 // A line that is a route: two numbers and the letter of a class, one space between them.
-ghost use Rattle.std.specs.Prelude.{◌≡◌};
+ghost use Rattle.std.specs.Prelude.{◌≡◌, drop};
 ghost use Rattle.keys.specs.Routes.{route_of};
-ghost use Rattle.words.specs.Lines.{route_words, line_words, line_route};
+ghost use Rattle.words.specs.Lines.{left, route_words, next_route, row_words, line_route};
 ghost use Rattle.words.specs.Meaning.{Reads};
 
 use super::letters::class_letter;
@@ -36,18 +36,23 @@ pub fn route_words(entry: &[u8], exit: &[u8], class: &[u8]) -> Option<RouteWords
     Some(RouteWords { entry, exit, class })
 }
 
-// What the words of a line say of a route; none where they are not just three of the right forms.
-fn line_words(line: &[u8]) -> Option<RouteWords>
-    ensures { result ≡ line_words line.now }
+// The route that the next three words are.
+pub fn next_route(words: &mut Pieces<'_>) -> Option<RouteWords>
+    ensures answer { result ≡ next_route (left words.old) }
+    ensures after { left words.new ≡ drop 3 (left words.old) }
 {
-    let mut pieces = Pieces::new(line, b' ');
-    let entry = pieces.next()?;
-    let exit = pieces.next()?;
-    let class = pieces.next()?;
-    match pieces.next() {
-        None => route_words(entry, exit, class),
-        Some(_) => None,
-    }
+    let entry = words.next()?;
+    let exit = words.next()?;
+    let class = words.next()?;
+    route_words(entry, exit, class)
+}
+
+// The route that the only three words left are.
+pub fn last_route(mut words: Pieces<'_>) -> Option<RouteWords>
+    ensures { result ≡ row_words (left words.entry) }
+{
+    let route = next_route(&mut words)?;
+    words.next().is_none().then_some(route)
 }
 
 // The route that a line is: no such line where its words are of another form, out of range where a number is no signal.
@@ -55,5 +60,7 @@ pub fn read_route(line: &[u8]) -> Result<Route, Refusal>
     ensures answer { result ≡ line_route line.now }
     ensures meaning { Reads line.now result }
 {
-    line_words(line).ok_or(Refusal::NoSuchLine)?.route()
+    last_route(Pieces::new(line, b' '))
+        .ok_or(Refusal::NoSuchLine)?
+        .route()
 }

@@ -1,3 +1,0 @@
-pub mod Pasted
-pub mod Lengths
-pub mod Fronts

@@ -1,5 +1,0 @@
--- One digit fewer is left each time.
-use Rattle.replies.proofs.placing.+put_decimal.Given as goal
-
-abbrev pub decreases-put_decimal : goal.decreases-put_decimal
-decreases-put_decimal l = l.number

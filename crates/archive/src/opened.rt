@@ -9,6 +9,7 @@ use stored::{StoredKey, StoredTally};
 mod calls;
 mod rows;
 
+// Kept without `==` and Debug: two archives are compared by their bytes, which are the caller's.
 #[derive(Drop)]
 pub struct Archive<'a, K: StoredKey, T: StoredTally<K>> {
     bytes: &'a [u8],
@@ -19,7 +20,7 @@ pub struct Archive<'a, K: StoredKey, T: StoredTally<K>> {
 }
 
 // What a row is in the file: the bytes of the request and of the answer.
-#[derive(Clone, Copy)]
+#[derive(Clone, Copy, PartialEq, Eq, Debug)]
 pub struct Parts<'a> {
     pub request: &'a [u8],
     pub answer: &'a [u8],

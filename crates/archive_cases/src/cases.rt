@@ -74,9 +74,8 @@ fn lengths<K: StoredKey, T: StoredTally<K>>(
 
 // Each field of the header.
 fn headers<K: StoredKey, T: StoredTally<K>>(rt: &HostRuntime, file: &mut [u8]) -> io::Result<()> {
-    // Kept: the places of the nine fields, which no list holds.
-    for i in 0..9usize {
-        changed::<K, T>(rt, file, 4 * i + 3, 255)?;
+    for last in (3..HEADER_LENGTH).step_by(4) {
+        changed::<K, T>(rt, file, last, 255)?;
     }
     changed::<K, T>(rt, file, 6, 4)
 }

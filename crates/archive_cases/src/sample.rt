@@ -4,7 +4,7 @@ use requests::{Answer, Request, Row, Station};
 use stored::{StoredKey, StoredTally};
 use writing::Rows;
 
-#[derive(Drop)]
+#[derive(PartialEq, Eq, Debug, Drop)]
 pub struct Sample<K, T> {
     pub first: K,
     pub second: K,

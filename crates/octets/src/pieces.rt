@@ -16,7 +16,7 @@ fn cut(text: &[u8], separator: u8) -> (&[u8], Option<&[u8]>)
     (&text[..size], Some(&text[size + 1..]))
 }
 
-#[derive(Clone, Copy)]
+#[derive(Clone, Copy, PartialEq, Eq, Debug)]
 pub struct Pieces<'a> {
     rest: Option<&'a [u8]>,
     separator: u8,

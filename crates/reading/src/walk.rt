@@ -7,7 +7,7 @@ use cells::{Cell, Side, Slot};
 
 // The slot at hand, and how many places of the work row have their right side still to come.
 // Kept: the work row is lent memory, so how much of it is used stands beside it.
-#[derive(Clone, Copy)]
+#[derive(Clone, Copy, PartialEq, Eq, Debug)]
 pub struct Walk {
     pub at: Slot,
     pub depth: usize,

@@ -1,23 +1,23 @@
 // A carry, by the station's note, the head of the queue and the decision.
 ghost use Rattle.std.specs.Prelude.{◌≡◌, List, ◌∷◌, Some, unwrap_or};
-ghost use Rattle.std.specs.Option.{option_and_then};
 ghost use Rattle.requests.specs.declared.request.Request.{Request};
 ghost use Rattle.rules.specs.Carries.{at_head, look, carried, sought, last_word};
 ghost use Rattle.rules.specs.Kinds.{kinds_of};
-ghost use Rattle.rules.specs.Queues.{head_of, numbered};
+ghost use Rattle.rules.specs.Queues.{numbered};
 ghost use Rattle.rules.specs.Sound.{Sound};
 ghost use Rattle.rules.specs.States.{Waiter};
 ghost use Rattle.rules.specs.declared.mode.Mode.TheVariants.{Between};
 ghost use Rattle.cells.specs.Rosters.{mode_at};
 ghost use Rattle.board.specs.Cells.{waits_of};
 ghost use Rattle.board.specs.Of.{board_state, Turns};
-ghost use Rattle.carrying.specs.Notes.{gate_key, note_request, note_place};
+ghost use Rattle.carrying.specs.Notes.{gate_key};
 
+use super::noted::{noted_asked, noted_decision, noted_head};
 use super::slots::{be_late, decide, read_slot};
 use board::Board;
 use keys::Key;
 use moving::move_head;
-use queues::{head, last_word, mode_at};
+use queues::{last_word, mode_at};
 use requests::{Request, Station};
 use rules::{Carried, Mode, Note};
 use tallies::Tally;
@@ -93,45 +93,6 @@ fn look_at<K: Key, T: Tally<K>>(
             read_slot(board, station, number, key, slot)
         }
     }
-}
-
-// The request that a note speaks of, and its place; none where there is no note.
-fn noted_request(note: Note) -> Option<u16>
-    ensures { result ≡ note_request note }
-{
-    match note {
-        Note::None => None,
-        Note::Saw { request, .. } | Note::Walk { request, .. } => Some(request),
-    }
-}
-
-fn noted_place(note: Note) -> Option<u16>
-    ensures { result ≡ note_place note }
-{
-    match note {
-        Note::None => None,
-        Note::Saw { place, .. } => Some(place),
-        Note::Walk { next, .. } => Some(next),
-    }
-}
-
-// The head of the queue at the note's place, and the decision and the request that the note is about.
-fn noted_head<K: Key, T: Tally<K>>(board: &Board<'_, K, T>, note: Note) -> Option<u16>
-    ensures { Sound (board_state K.Key T.Tally board.now) → result ≡ option_and_then (λ p. head_of ((board_state K.Key T.Tally board.now).queue p)) (note_place note) }
-{
-    head(board, noted_place(note)?)
-}
-
-fn noted_decision<K: Key, T: Tally<K>>(board: &Board<'_, K, T>, note: Note) -> Option<bool>
-    ensures { result ≡ option_and_then (board_state K.Key T.Tally board.now).decision (note_request note) }
-{
-    board.decision(noted_request(note)?)
-}
-
-fn noted_asked<K: Key, T: Tally<K>>(board: &Board<'_, K, T>, note: Note) -> Option<Request<K>>
-    ensures { result ≡ option_and_then (numbered (board_state K.Key T.Tally board.now).requests) (note_request note) }
-{
-    board.request(noted_request(note)?)
 }
 
 // A carry by the note of a station; without a note, or where it no longer holds, it is late.

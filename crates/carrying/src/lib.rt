@@ -2,6 +2,7 @@
 #![tactic(auto)]
 
 mod carry;
+mod noted;
 mod slots;
 
 pub use carry::carry_note;

@@ -1,4 +1,5 @@
 // A note dropped, and a slot read for the decision of a request.
+// Kept: board and station are two parameters; in one struct the lent board would be named through it in every contract.
 ghost use Rattle.std.specs.Prelude.{◌≡◌, Some};
 ghost use Rattle.requests.specs.declared.request.Request.{Request};
 ghost use Rattle.rules.specs.Carries.{late, decided, read_slot};

@@ -1,12 +1,12 @@
 -- The key that stands behind as many as there is room for.
-use Rattle.std.proofs.Common.{◌≡◌, ℕ, List, length, ltb, is_some, Some, None, Option, sym, refl, ap, ◌∙◌, rules, ⊎_elim}
+use Rattle.std.proofs.Common.{◌≡◌, ℕ, List, length, ltb, is_some, Some, None, Option, sym, refl, ap, subst, ◌∙◌, rules, ⊎_elim}
 use Rattle.std.specs.Prelude.{slice_get}
 use Rattle.std.specs.Option.{option_map}
 use Rattle.std.proofs.lemmas.Bool.{lt-ltb, le-ltb}
 use Rattle.std.proofs.lemmas.Option.{slice_get_cases}
 use Rattle.std.proofs.lemmas.Iterator.Consumers.{YieldsList-from_first, YieldsList-from_filter_map, nth_from_yields_List}
 use Rattle.reading.specs.Walks.{first_named, visits, rising_from, firsts_under}
-use Rattle.reading.specs.Slots.{slots_left}
+use Rattle.reading.specs.Slots.{slots_left, CanGoOn}
 use Rattle.reading.proofs.keys_off.outnumber.Goals as goal
 
 -- there is an entry at an index within the row
@@ -19,6 +19,9 @@ within_row xs n = ⊎_elim
 is_some-same : {X : Type 0} (o : Option X) → is_some o ≡ is_some (option_map (λ x. x) o)
 is_some-same None = refl
 is_some-same (Some x) = refl
+
+pub nth-requires : goal.nth-requires
+nth-requires g c = (subst CanGoOn (sym c.filter_map.ensures.source) c.new.ensures.begun, tt, search rules)
 
 pub returns : goal.returns
 returns g c =

@@ -1,5 +1,5 @@
 -- A request more, or none where the board is full.
-use Rattle.std.proofs.Common.{◌≡◌, suc, ◌+◌, ◌<◌, min, false, cond, leb, List, length, get_or, take, set, Some, None, sym, ap, ◌∙◌, subst, add-one, arith, length-set}
+use Rattle.std.proofs.Common.{◌≡◌, suc, ◌+◌, ◌<◌, min, true, false, cond, leb, List, length, get_or, take, set, Some, None, sym, refl, ap, ◌∙◌, subst, add-one, arith, length-set}
 use mathlib.Core.HLevel.{×_prop}
 use mathlib.Core.Logic.{∥∥₁_map, ∥∥₁_elim}
 use Rattle.rules.specs.declared.note.Note.TheVariants as note
@@ -13,6 +13,13 @@ use Rattle.board.proofs.Named.{slot-named_prop, cells-named_prop, slot-named_mor
 use Rattle.board.proofs.Places.{given-count}
 use Rattle.board.proofs.Taken.{taken_state, taken-named}
 use Rattle.board.proofs.board.Board.take.Goals as goal
+
+pub returns-then-count-capacity : goal.returns-then-count-capacity
+returns-then-count-capacity g c =
+    let b = c.args.self.now in
+    let s = board_state g.K.Key g.T.Tally b in
+    let full : leb (min 1024 (length b.cells.now)) (given s) ≡ true = let h = given-count g.K.Key g.T.Tally b (omega arith) in let e = c.capacity.ensures in let l = c.if-count-capacity.true in grind arith in
+    record { after = ap (λ v. cond v s (taken s c.args.station.number c.args.request)) (sym full); row = refl }
 
 pub invariant_of-self : goal.invariant_of-self
 invariant_of-self g c =

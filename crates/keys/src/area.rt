@@ -10,15 +10,9 @@ pub struct Area<K> {
     pub key: K,
 }
 
-// The plain fields of an area key: the number, and the fields of the key below.
-#[derive(Clone, Copy, PartialEq, Eq, Debug)]
-pub struct AreaFields<F> {
-    pub number: u16,
-    pub key: F,
-}
-
 impl<K: Key> Key for Area<K> {
-    type Fields = AreaFields<K::Fields>;
+    // The plain fields of an area key are an area of the fields of the key below.
+    type Fields = Area<K::Fields>;
 
     ghost le = { λ a b. by_first a.number b.number (K.Key.le a.key b.key) };
 
@@ -36,18 +30,19 @@ impl<K: Key> Key for Area<K> {
 
     ghost remade = { Prim.search rules };
 
+    // Kept: tuples compare by the library's order alone, and the key below answers only `at_most`.
     fn at_most(self, other: Area<K>) -> bool {
         self.number < other.number || self.number == other.number && self.key.at_most(other.key)
     }
 
-    fn fields(self) -> AreaFields<K::Fields> {
-        AreaFields {
+    fn fields(self) -> Area<K::Fields> {
+        Area {
             number: self.number,
             key: self.key.fields(),
         }
     }
 
-    fn from_fields(fields: AreaFields<K::Fields>) -> Area<K> {
+    fn from_fields(fields: Area<K::Fields>) -> Area<K> {
         Area {
             number: fields.number,
             key: K::from_fields(fields.key),

@@ -10,7 +10,7 @@ mod route;
 mod section;
 mod texts;
 
-pub use area::{Area, AreaFields};
+pub use area::Area;
 pub use class::Class;
 pub use key::Key;
 pub use order::{greater_of, is_below, is_same};

@@ -12,6 +12,7 @@ pub fn is_below<K: Key>(a: K, b: K) -> bool
 }
 
 // Whether a and b are one key.
+// Kept: a kind of key answers one question, from which this follows; it need not have `==`.
 pub fn is_same<K: Key>(a: K, b: K) -> bool
     ensures same { result ≡ true → a ≡ b }
     ensures found { a ≡ b → result ≡ true }

@@ -7,6 +7,7 @@ mod names;
 
 #[derive(Clone, Copy, PartialEq, Eq, Debug)]
 pub struct Section {
+    // Kept: eight bytes and no String, since keys lie in lent memory without a heap.
     bytes: [u8; 8],
     ghost named: { is_section bytes ≡ true },
 }

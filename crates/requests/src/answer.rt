@@ -17,6 +17,7 @@ pub enum Answer<T> {
 }
 
 impl<T> Answer<T> {
+    // Kept: a code forgets a count's tally, so it is no conversion of the answer.
     pub fn code(&self) -> u8
         ensures { result ≡ answer_code self.now }
     {

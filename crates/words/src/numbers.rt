@@ -28,6 +28,7 @@ fn all_value(word: &[u8]) -> Option<u32>
 }
 
 // The number that a word is; none where it is no number.
+// Kept: the library's `parse` takes zeros in front and a plus sign, which a line may not have.
 pub fn number(word: &[u8]) -> Option<u32>
     ensures { result ≡ number_in word.now }
 {

@@ -24,6 +24,7 @@ fn fill(name: &[u8]) -> [u8; 8]
 
 impl Section {
     // The section of this name, where it is one.
+    // Kept: each kind of key has a `new`, which tests what it is made of; a conversion would hide that this one does, too.
     pub fn new(name: &[u8]) -> Result<Section, Refusal>
         ensures { result ≡ section_of name.now }
     {

@@ -36,6 +36,7 @@ impl Station {
         )
     }
 
+    // Kept: the field that clauses name, as `station.number`; a conversion would have no name for it.
     pub fn number(self) -> u8
         ensures { result ≡ self.number }
     {

@@ -16,6 +16,7 @@ impl Number {
         Number { value }
     }
 
+    // Kept: the field that clauses name, as `tally.value`; a conversion would have no name for it.
     pub fn value(self) -> u32
         ensures { result ≡ self.value }
     {

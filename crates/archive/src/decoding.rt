@@ -1,8 +1,8 @@
 // The row that the bytes of a request row and of an answer row are.
-ghost use Rattle.std.specs.Prelude.{◌≡◌, ℕ, ◌+◌, ◌*◌, ◌≤◌, List, ◌∷◌, length, Some};
+ghost use Rattle.std.specs.Prelude.{◌≡◌, ◌*◌, ◌≤◌, length, Some};
 ghost use Rattle.requests.specs.Kinds.{kind_number};
 ghost use Rattle.requests.specs.declared.row.Row.{Row};
-ghost use Rattle.archive.specs.Format.{request_length, answer_length, request_row, answer_row};
+ghost use Rattle.archive.specs.Format.{request_row, answer_row};
 ghost use Rattle.archive.specs.RowsIn.{request_in, answer_in};
 
 use super::layout::Layout;

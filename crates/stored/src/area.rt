@@ -1,6 +1,4 @@
 // An area's number in two bytes in front of a stored key of any kind.
-ghost use Rattle.std.specs.Prelude.{◌≡◌, ◌+◌, ◌≤◌};
-ghost use Rattle.stored.specs.Forms.{width_of};
 ghost use Rattle.stored.specs.AreaBytes.{area_form};
 ghost use Rattle.stored.specs.AreaBytesLemmas.{area_rewritten};
 ghost use Rattle.std.proofs.Common.{rules};

@@ -1,7 +1,5 @@
 // Routes in five bytes.
-ghost use Rattle.std.specs.Prelude.{◌≡◌, [], ◌∷◌};
-ghost use Rattle.stored.specs.Forms.{in_range};
-ghost use Rattle.stored.specs.RouteBytes.{route_form, route_read};
+ghost use Rattle.stored.specs.RouteBytes.{route_form};
 ghost use Rattle.stored.specs.RouteBytesLemmas.{route_reread, route_rewritten};
 ghost use Rattle.std.proofs.Common.{rules};
 

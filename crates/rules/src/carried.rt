@@ -17,6 +17,7 @@ pub enum Carried {
 }
 
 impl Carried {
+    // Kept beside Display, which may fail: a word is always there.
     pub fn word(self) -> &'static str
         ensures { result.now ≡ carried_word self }
     {

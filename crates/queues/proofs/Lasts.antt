@@ -8,7 +8,8 @@ use Rattle.rules.specs.Kinds.{Kinds}
 use Rattle.rules.specs.Queues.{stands}
 use Rattle.rules.specs.Sound.{Rises, Sounds, Sound}
 use Rattle.rules.specs.States.{State, Waiter}
-use Rattle.rules.proofs.Bools.{or_cases, or_right}
+use Rattle.std.proofs.lemmas.Bool.{or_right}
+use Rattle.rules.proofs.Bools.{or_cases}
 use Rattle.rules.proofs.SoundQueues.{rises-above}
 use Rattle.queues.specs.Held.{held_at}
 use Rattle.queues.specs.Words.{word_on, word_held}

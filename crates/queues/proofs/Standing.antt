@@ -7,7 +7,7 @@ use Rattle.rules.specs.Queues.{numbered, stands}
 use Rattle.rules.specs.Sound.{stands_in}
 use Rattle.rules.specs.States.{Waiter}
 use Rattle.rules.specs.declared.mode.Mode.{Mode}
-use Rattle.rules.proofs.Bools.{false_unless}
+use Rattle.std.proofs.lemmas.Bool.{false_from_ne_true}
 use Rattle.rules.proofs.SoundQueues.{in_stands, stands_some, head_stands}
 use Rattle.rules.proofs.SoundRows.{in_cases}
 use Rattle.cells.specs.declared.cell.Cell.{Cell}
@@ -74,7 +74,7 @@ module _ {K F T : Type 0} (k : key.Ghosts K F) (t : tally.Ghosts T K F) (b : Boa
     where
       go : (o : Option Mode) → mode_at (waits_of b x) p ≡ o → stands x ((board_state k t b).queue p) ≡ is_some o
       go None e =
-          false_unless (stands x ((board_state k t b).queue p)) (λ st.
+          false_from_ne_true (stands x ((board_state k t b).queue p)) (λ st.
           let v = stands_some x ((board_state k t b).queue p) st in
           let w = standing_mode p x v.0 v.1 in
           let z : ◌≡◌ {A = ℕ} 0 1 = cc in

@@ -25,12 +25,3 @@ or_false false = refl
 pub not_and : (b : Bool) → (not b && b) ≡ false
 not_and true = refl
 not_and false = refl
-
-pub or_right : (a b : Bool) → b ≡ true → (a || b) ≡ true
-or_right true b e = refl
-or_right false b e = e
-
--- what cannot be true is false
-pub false_unless : (b : Bool) → (b ≡ true → ⊥) → b ≡ false
-false_unless true h = absurd (h refl)
-false_unless false h = refl

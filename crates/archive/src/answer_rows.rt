@@ -12,6 +12,7 @@ use requests::Kind;
 use stored::{StoredKey, StoredTally};
 
 // Whether a request of the kind can have that code: 0, while it is unfinished, or one that answers it.
+// Kept: a code is a byte that a file holds; whether it is that of an answer is what is asked here.
 fn is_code(kind: Option<Kind>, code: u8) -> bool
     ensures { result ≡ is_code kind code }
 {
@@ -49,6 +50,7 @@ fn check_answer(kind: u8, row: &[u8], number: usize, offset: usize) -> Result<()
 }
 
 // The first fault of all answer rows.
+// Kept beside that of request rows: a loop for both would take the check as a closure, with the bytes of a row in its contract.
 pub fn check_answers<K: StoredKey, T: StoredTally<K>>(
     layout: &Layout<K, T>,
     requests: &[u8],
@@ -64,7 +66,7 @@ pub fn check_answers<K: StoredKey, T: StoredTally<K>>(
         .chunks_exact(layout.request_length())
         .zip(answers.chunks_exact(size));
     for (i, (asked, row)) in rows.enumerate() {
-        // Kept: the kind as its byte, since a damaged request row may have none.
+        // Kept: the checks are defined over the byte of the request row, whichever it is.
         check_answer(asked[0], row, i + 1, start + i * size)?;
     }
     Ok(())

@@ -1,4 +1,4 @@
-// The first fault of a whole file.
+// The checks of a whole file.
 ghost use Rattle.std.specs.Prelude.{◌≡◌, MatchResult, Some, None};
 ghost use Rattle.archive.specs.Checks.{rows_told, fault_of};
 

@@ -11,6 +11,7 @@ use requests::{Answer, Kind, Request, Row, Station};
 use stored::{StoredKey, StoredTally};
 
 // The key of these bytes.
+// Kept: a key asks for its width alone; a layout passed along for its limit would be a parameter that no code reads.
 fn key_in<K: StoredKey>(bytes: &[u8]) -> Option<K>
     requires { (K.StoredKey.form.size ≤ 16) × (length bytes.now ≡ K.StoredKey.form.size) }
     ensures { result ≡ K.StoredKey.form.read bytes.now }

@@ -16,7 +16,7 @@ fn field(bytes: &[u8], offset: usize) -> u32
     u32::from_be_bytes(bytes[offset..offset + 4].try_into().unwrap())
 }
 
-// Whether the field at an offset is that number.
+// The fault of a field at an offset that is not that number.
 fn check_field(bytes: &[u8], offset: usize, number: u32) -> Result<(), Fault>
     requires { offset + 4 ≤ length bytes.now }
     ensures { result ≡ passed (field_check bytes.now offset number ∷ []) }
@@ -27,7 +27,7 @@ fn check_field(bytes: &[u8], offset: usize, number: u32) -> Result<(), Fault>
     Ok(())
 }
 
-// Whether these are the fields from the third on.
+// The first fault of the fields from the third on, where these are expected.
 fn check_later(bytes: &[u8], expected: &[u32]) -> Result<(), Fault>
     requires { 8 + 4 * length expected.now ≤ length bytes.now }
     ensures { result ≡ passed (field_checks bytes.now 8 expected.now) }

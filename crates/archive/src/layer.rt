@@ -1,5 +1,5 @@
 // The three layers of a file.
-ghost use Rattle.std.specs.Prelude.{Some};
+ghost use Rattle.std.specs.Prelude.{◌≡◌, Some};
 ghost use Rattle.archive.specs.Layers.{layer_word};
 
 use std::fmt;
@@ -11,15 +11,24 @@ pub enum Layer {
     Answers,
 }
 
+impl Layer {
+    // Kept beside Display: a formatter may fail, and this can't.
+    pub fn word(self) -> &'static str
+        ensures { result.now ≡ layer_word self }
+    {
+        match self {
+            Layer::Header => "header",
+            Layer::Requests => "requests",
+            Layer::Answers => "answers",
+        }
+    }
+}
+
 // A layer is printed as its word.
 impl fmt::Display for Layer {
     ghost output = { λ layer. Some (layer_word layer) };
 
     fn fmt<W: fmt::Write>(&self, f: &mut fmt::Formatter<W>) -> fmt::Result {
-        match self {
-            Layer::Header => write!(f, "header"),
-            Layer::Requests => write!(f, "requests"),
-            Layer::Answers => write!(f, "answers"),
-        }
+        f.write_str(self.word())
     }
 }

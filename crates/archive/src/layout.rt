@@ -13,8 +13,7 @@ pub const HEADER_LENGTH: usize = 36;
 
 pub const MOST_ROWS: usize = 1024;
 
-// Kept without `==` and Debug: a layout is its number of rows, which is asked for.
-#[derive(Drop)]
+#[derive(PartialEq, Eq, Debug, Drop)]
 pub struct Layout<K: StoredKey, T: StoredTally<K>> {
     rows: usize,
     kinds: PhantomData<(K, T)>,

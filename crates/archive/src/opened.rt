@@ -9,8 +9,8 @@ use stored::{StoredKey, StoredTally};
 mod calls;
 mod rows;
 
-// Kept without `==` and Debug: two archives are compared by their bytes, which are the caller's.
-#[derive(Drop)]
+// Kept: which rows it has is said by `Opened`, as a premise of the calls, since they are no field; `count` says that there are some.
+#[derive(PartialEq, Eq, Debug, Drop)]
 pub struct Archive<'a, K: StoredKey, T: StoredTally<K>> {
     bytes: &'a [u8],
     layout: Layout<K, T>,

@@ -11,6 +11,7 @@ use tallies::Number;
 const USAGE: &str = "usage: archive_bench FILE TIMES";
 
 // How many rows there are; none where the file has a fault.
+// Kept as a number: they are added up.
 fn rows(bytes: &[u8]) -> usize {
     Archive::<Route, Number>::open(bytes).map_or(0, |archive| archive.count())
 }

@@ -56,6 +56,7 @@ fn changed<K: StoredKey, T: StoredTally<K>>(
 }
 
 // The file whole, and too long or too short.
+// Kept: the byte behind the file is read too, so the buffer comes whole, with the file's length.
 fn lengths<K: StoredKey, T: StoredTally<K>>(
     rt: &HostRuntime,
     buffer: &[u8],

@@ -18,6 +18,7 @@ mod writing;
 
 pub struct Board<'a, K: Key, T: Tally<K>> {
     cells: &'a mut [Cell<K::Fields, T>],
+    // Kept: the cells are lent, so how many of them hold requests stands beside them.
     count: usize,
     gate: Slot,
     desks: [Desk; 8],

@@ -14,6 +14,7 @@ use rules::Note;
 use tallies::Tally;
 
 // The request that a note speaks of, and its place; none where there is no note.
+// Kept: two questions of a note; a pair would be taken apart again at each use.
 fn noted_request(note: Note) -> Option<u16>
     ensures { result ≡ note_request note }
 {

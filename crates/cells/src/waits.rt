@@ -6,6 +6,7 @@ use rules::Mode;
 
 #[derive(Clone, Copy, PartialEq, Eq, Debug)]
 pub enum Waits {
+    // Kept as a case: it goes over into the others and back, so all five are matched together.
     Nowhere,
     Between(u16),
     From(u16),

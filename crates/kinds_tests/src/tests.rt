@@ -1,4 +1,4 @@
-// The edges of the kinds, a few checks to each.
+// The edges of the kinds, a few checks to each. Refusals are compared by their numbers, as documents tell them.
 use keys::{Area, Class, Key, Route, Section, is_below};
 use requests::Station;
 use std::test::Fail;

@@ -7,7 +7,7 @@ use keys::{Refusal, Route};
 use requests::Request;
 use words::RouteWords;
 
-// Kept: one match for the one conversion of keys that there is; over a closure the contract says less plainly what comes out.
+// Kept as a match: a request is another crate's type, so it has no TryFrom here; over a closure the contract says less plainly what comes out.
 fn checked_request(request: Request<RouteWords>) -> Result<Request<Route>, Refusal>
     ensures { result ≡ request_checked request }
 {

@@ -14,7 +14,7 @@ pub enum Verb {
 }
 
 // The call that a word names; none where it names none.
-// Kept: no TryFrom, since a word that names nothing has no error of its own; its line is then no line.
+// Kept: no TryFrom, since the readers of a form answer none for any wrong word and would drop its error at once.
 pub fn verb_in(word: &[u8]) -> Option<Verb>
     ensures { result ≡ verb_in word.now }
 {
@@ -28,7 +28,7 @@ pub fn verb_in(word: &[u8]) -> Option<Verb>
 }
 
 // The kind of request that a word names; none where it names none.
-// Kept: no TryFrom, as above.
+// Kept beside the other: the words are not the same, and a table of words and cases would be searched by hand.
 pub fn kind_in(word: &[u8]) -> Option<Kind>
     ensures { result ≡ kind_in word.now }
 {

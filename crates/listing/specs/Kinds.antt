@@ -11,8 +11,8 @@ use Rattle.listing.specs.declared.kinds.TallyKind.{TallyKind}
 use Rattle.listing.specs.declared.kinds.TallyKind.TheVariants.{Numbers, ByClass, NumbersByClass}
 use Rattle.keys.specs.KeyTexts.{route_text, section_text, area_text}
 use Rattle.tallies.specs.TallyTexts.{number_text, classes_text, pair_text}
-use Rattle.listing.specs.declared.unknown.UnknownKeys.{UnknownKeys}
-use Rattle.listing.specs.declared.unknown.UnknownTallies.{UnknownTallies}
+use Rattle.listing.specs.declared.unknown.UnknownKind.{UnknownKind}
+use Rattle.listing.specs.declared.unknown.UnknownKind.TheVariants as unknown
 use Rattle.listing.specs.Reports.{Printing}
 
 abbrev pub key_word : KeyKind → List ℕ
@@ -27,11 +27,11 @@ tally_word ByClass = codes "classes"
 tally_word NumbersByClass = codes "number+classes"
 
 -- the kind of a word, or that no kind has it
-abbrev pub KeyKindOfWord : List ℕ → Result KeyKind UnknownKeys → Type 0
-KeyKindOfWord word result = MatchResult result (λ k. key_word k ≡ word) (λ _. (k : KeyKind) → key_word k ≢ word)
+abbrev pub KeyKindOfWord : List ℕ → Result KeyKind UnknownKind → Type 0
+KeyKindOfWord word result = MatchResult result (λ k. key_word k ≡ word) (λ e. (e ≡ unknown.Keys) × ((k : KeyKind) → key_word k ≢ word))
 
-abbrev pub TallyKindOfWord : List ℕ → Result TallyKind UnknownTallies → Type 0
-TallyKindOfWord word result = MatchResult result (λ k. tally_word k ≡ word) (λ _. (k : TallyKind) → tally_word k ≢ word)
+abbrev pub TallyKindOfWord : List ℕ → Result TallyKind UnknownKind → Type 0
+TallyKindOfWord word result = MatchResult result (λ k. tally_word k ≡ word) (λ e. (e ≡ unknown.Tallies) × ((k : TallyKind) → tally_word k ≢ word))
 
 -- what is printed for two kinds; nothing where the tallies are not of such keys
 abbrev pub Listed : {X E : Type 0} → (X → List ℕ) → KeyKind → TallyKind → List ℕ → Option (Result X E) → Type 0

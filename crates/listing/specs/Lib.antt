@@ -1,4 +1,5 @@
 pub mod RowTexts
 pub mod FaultTexts
 pub mod Reports
+pub mod Unknown
 pub mod Kinds

@@ -8,7 +8,7 @@ use archive::{Fault, HEADER_LENGTH, Layer};
 use std::fmt;
 
 // The bytes of a file, the widths of the kinds that it was opened with, and its first fault.
-#[derive(Drop)]
+#[derive(Clone, Copy, PartialEq, Eq, Debug)]
 pub struct Damage<'a> {
     pub bytes: &'a [u8],
     pub key: usize,

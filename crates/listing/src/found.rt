@@ -25,6 +25,7 @@ impl fmt::Display for Found {
 }
 
 // The number in the four bytes at an offset, 0 where there are not so many.
+// Kept: the sentence tells 0 there too, and the archive's own fields are read only where they are known to stand.
 pub fn number_at(bytes: &[u8], offset: usize) -> u32
     ensures { result ≡ told_at offset bytes.now }
 {

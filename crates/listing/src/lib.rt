@@ -12,4 +12,4 @@ mod wanted;
 pub use kinds::{KeyKind, TallyKind};
 pub use reports::{list, report};
 pub use rows::list_rows;
-pub use unknown::{UnknownKeys, UnknownTallies};
+pub use unknown::UnknownKind;

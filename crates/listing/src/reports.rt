@@ -43,6 +43,7 @@ pub fn list(
 ) -> Option<Result<String, AllocError>>
     ensures { Listed string_bytes keys tallies bytes.now result }
 {
+    // Kept: a closed table from two words to types; a function chosen by it would have to be handed out.
     match (keys, tallies) {
         (KeyKind::Routes, TallyKind::Numbers) => Some(report::<Route, Number>(heap, bytes)),
         (KeyKind::Routes, TallyKind::ByClass) => Some(report::<Route, Classes>(heap, bytes)),

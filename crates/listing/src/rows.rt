@@ -9,7 +9,7 @@ use printing::{PrintedKey, PrintedTally};
 use requests::{Answer, Request, Row};
 use std::alloc::{AllocError, Global};
 
-// Kept as text: requests and answers are another crate's types, to which no impl of std's trait can be added here.
+// Kept as functions: these are a listing's words for requests and answers, and a Display would make them everyone's.
 fn request_text<K: PrintedKey>(heap: Global, request: Request<K>) -> Result<String, AllocError>
     ensures { IfOk result (λ s. string_bytes s ≡ request_text K.PrintedKey.text request) }
 {
@@ -59,7 +59,7 @@ pub fn list_rows<K: PrintedKey, T: PrintedTally<K>>(
 {
     let mut written = String::new(heap);
     let count = archive.count();
-    // Kept: an archive hands its rows out by number.
+    // Kept: rows are handed out by number, from 1, and each line tells its number.
     for i in 0..count {
         let row = archive.read(i + 1).unwrap();
         let line = row_line(heap, i + 1, &row)?;

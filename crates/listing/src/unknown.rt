@@ -1,31 +1,25 @@
-// Words that name no kind of key or of tally.
-ghost use Rattle.std.specs.Prelude.{Some, codes};
+// A word that names no kind of key, or none of tally.
+ghost use Rattle.std.specs.Prelude.{Some};
+ghost use Rattle.listing.specs.Unknown.{unknown_text};
 
 use std::error::Error;
 use std::fmt;
 
 #[derive(Clone, Copy, PartialEq, Eq, Debug)]
-pub struct UnknownKeys;
+pub enum UnknownKind {
+    Keys,
+    Tallies,
+}
 
-#[derive(Clone, Copy, PartialEq, Eq, Debug)]
-pub struct UnknownTallies;
-
-impl fmt::Display for UnknownKeys {
-    ghost output = { λ _. Some (codes "KEYS is route, section, area-route or area-section") };
+impl fmt::Display for UnknownKind {
+    ghost output = { λ unknown. Some (unknown_text unknown) };
 
     fn fmt<W: fmt::Write>(&self, f: &mut fmt::Formatter<W>) -> fmt::Result {
-        write!(f, "KEYS is route, section, area-route or area-section")
+        f.write_str(match self {
+            UnknownKind::Keys => "KEYS is route, section, area-route or area-section",
+            UnknownKind::Tallies => "TALLIES is number, classes or number+classes",
+        })
     }
 }
 
-impl fmt::Display for UnknownTallies {
-    ghost output = { λ _. Some (codes "TALLIES is number, classes or number+classes") };
-
-    fn fmt<W: fmt::Write>(&self, f: &mut fmt::Formatter<W>) -> fmt::Result {
-        write!(f, "TALLIES is number, classes or number+classes")
-    }
-}
-
-impl Error for UnknownKeys {}
-
-impl Error for UnknownTallies {}
+impl Error for UnknownKind {}

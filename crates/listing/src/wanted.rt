@@ -1,4 +1,4 @@
-// What stands in the field of a file, as it must be.
+// What a field of a file must hold.
 ghost use Rattle.std.specs.Prelude.{◌≡◌, Some};
 ghost use Rattle.listing.specs.FaultTexts.{in_header_wanted, in_request_wanted, in_answer_wanted, wanted, wanted_text};
 

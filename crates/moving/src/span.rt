@@ -7,7 +7,7 @@ use keys::Key;
 use rules::Mode;
 use tallies::Tally;
 
-#[derive(Clone, Copy)]
+#[derive(Clone, Copy, PartialEq, Eq, Debug)]
 pub(super) struct Span<K> {
     pub lo: K,
     pub hi: K,

@@ -1,4 +1,4 @@
-// Keys and tallies as people read them.
+// Stored kinds of key and of tally each of which is printed as a text.
 #![tactic(auto)]
 
 mod keys_text;

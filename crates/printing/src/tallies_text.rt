@@ -10,6 +10,7 @@ use stored::StoredTally;
 use tallies::{Classes, Number, Pair};
 
 // A stored kind of tally each of which is printed as a text.
+// Kept beside that of keys: each builds on the trait of its stored kind, so that one bound names both.
 pub trait PrintedTally<K: Key>: StoredTally<K> + Display {
     ghost text: { Self → List ℕ };
 

@@ -1,6 +1,6 @@
 // The queues of a board that keeps no lists: who heads each, how, and what the last word on a key is.
-// Kept: that the state shown is sound stays a premise here, and in what moves and carries, until a register holds a board
-// and its invariant gives it; a public call asks nothing of its callers.
+// Kept as a premise: that the state shown is sound is no fact of a board's type, since it does not hold between the single
+// changes of one carry, and a public call may ask nothing of its callers.
 #![tactic(auto)]
 
 mod finishing;

@@ -8,6 +8,7 @@ use super::station::Station;
 
 mod calls;
 
+// Kept without Copy: it would be written by hand, since a derive is refused over the fact below, and a row is used once.
 #[derive(PartialEq, Eq, Debug, Drop)]
 pub struct Row<K, T> {
     station: Station,

@@ -20,6 +20,7 @@ fn first_line(text: &[u8]) -> Option<(&[u8], &[u8])>
     Some((&text[..size], &text[size + 1..]))
 }
 
+// Kept beside pieces between separators: a newline ends a line, so that there is none behind the last.
 #[derive(Clone, Copy, PartialEq, Eq, Debug)]
 pub struct Lines<'a> {
     left: &'a [u8],

@@ -17,7 +17,7 @@ pub enum Carried {
 }
 
 impl Carried {
-    // Kept beside Display, which may fail: a word is always there.
+    // Kept beside Display: a formatter may fail, and this can't.
     pub fn word(self) -> &'static str
         ensures { result.now ≡ carried_word self }
     {

@@ -15,7 +15,7 @@ pub enum Mode {
 }
 
 impl Mode {
-    // Kept beside Display, which may fail: a word is always there.
+    // Kept beside Display: a formatter may fail, and this can't.
     pub fn word(self) -> &'static str
         ensures { result.now ≡ mode_word self }
     {

@@ -6,7 +6,7 @@ use std::fmt;
 
 #[derive(Clone, Copy, PartialEq, Eq, Debug)]
 pub enum Note {
-    // Kept: the note's three cases are the rules' own, matched together with head and decision.
+    // Kept as a case and no Option: the rules match all three with head and decision.
     None,
     // The request that stood at the head of the place's queue.
     Saw { request: u16, place: u16 },
@@ -15,7 +15,7 @@ pub enum Note {
 }
 
 impl Note {
-    // Kept beside Display, which may fail: a word is always there.
+    // Kept beside Display: a formatter may fail, and this can't.
     pub fn word(self) -> &'static str
         ensures { result.now ≡ note_word self }
     {

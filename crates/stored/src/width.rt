@@ -14,7 +14,7 @@ pub fn width_of(size: usize) -> usize
     size.min(WIDEST + 1)
 }
 
-// Whether values of so many bytes are not too wide and the row not too short; else the first that is.
+// Refuses a size past the widest, then a row that is shorter than the size.
 pub fn fits(size: usize, row: &[u8]) -> Result<(), Refusal>
     ensures answer { result ≡ checked size row.now (Ok tt) }
     ensures narrow { OnOk result (size ≤ 16) }

@@ -19,6 +19,7 @@ pub struct RouteWords {
 
 impl RouteWords {
     // The route of these words, where both numbers are signals.
+    // Kept: words are asked for their route at the end of a chain, where a method reads on.
     pub fn route(self) -> Result<Route, Refusal>
         ensures { result ≡ route_of self.entry self.exit self.class }
     {

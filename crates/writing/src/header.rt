@@ -12,7 +12,7 @@ pub fn put_header<K: StoredKey, T: StoredTally<K>>(layout: &Layout<K, T>, buffer
 {
     let fields = layout.header_fields();
     for (i, field) in fields.iter().enumerate() {
-        // Kept: what is written through the library's mutable chunks is not known after the loop.
+        // Kept: of what is written through `chunks_exact_mut` a proof knows nothing after the loop.
         buffer[4 * i..4 * i + 4].copy_from_slice(&field.to_be_bytes());
     }
 }

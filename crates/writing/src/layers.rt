@@ -35,7 +35,7 @@ pub fn put_all<K: StoredKey, T: StoredTally<K>, S: Rows<K, T>, P: Part<K, T>>(
     ensures { (rows : List (Row K T)) → S.has source.now rows → layout.now.rows ≡ length rows → parts.new ≡ flat_map P.bytes rows }
 {
     let size = P::length(layout);
-    // Kept: what is written through the library's mutable chunks is not known after the loop.
+    // Kept: of what is written through `chunks_exact_mut` a proof knows nothing after the loop.
     for i in 0..layout.rows() {
         put_given::<K, T, P>(
             layout,

@@ -34,6 +34,7 @@ fn put_tally<K: StoredKey, T: StoredTally<K>>(answer: Option<Answer<T>>, field: 
     }
 }
 
+#[derive(Clone, Copy, PartialEq, Eq, Debug)]
 pub struct RequestPart;
 
 impl<K: StoredKey, T: StoredTally<K>> Part<K, T> for RequestPart {
@@ -56,6 +57,7 @@ impl<K: StoredKey, T: StoredTally<K>> Part<K, T> for RequestPart {
     }
 }
 
+#[derive(Clone, Copy, PartialEq, Eq, Debug)]
 pub struct AnswerPart;
 
 impl<K: StoredKey, T: StoredTally<K>> Part<K, T> for AnswerPart {

@@ -29,6 +29,7 @@ impl Fault {
         }
     }
 
+    // Kept beside the other: a refusal and a layer differ, and a call names both by one word.
     pub fn in_answer(row: usize, offset: usize) -> Fault
         ensures { result ≡ in_answer row offset }
     {

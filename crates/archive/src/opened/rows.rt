@@ -11,7 +11,7 @@ use keys::Refusal;
 use requests::Row;
 use stored::{StoredKey, StoredTally};
 
-// One of the parts of that length that are one after the other from a start on.
+// One of several parts of one length, which lie one after the other from a start on.
 fn part(bytes: &[u8], start: usize, size: usize, index: usize) -> &[u8]
     requires { start + index * size + size ≤ length bytes.now }
     ensures { result.now ≡ take size (drop (start + index * size) bytes.now) }

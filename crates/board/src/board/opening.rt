@@ -12,6 +12,7 @@ use rules::Note;
 use tallies::Tally;
 
 // A register takes at most so many requests.
+// Kept beside an archive's most rows: neither crate stands on the other, and each number is a rule of its own.
 const MOST_REQUESTS: usize = 1024;
 
 impl<'a, K: Key, T: Tally<K>> Board<'a, K, T> {

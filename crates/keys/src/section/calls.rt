@@ -24,7 +24,7 @@ fn fill(name: &[u8]) -> [u8; 8]
 
 impl Section {
     // The section of this name, where it is one.
-    // Kept: each kind of key has a `new`, which tests what it is made of; a conversion would hide that this one does, too.
+    // Kept: a section is made of text as a route is of numbers and a class, each by `new`; nothing is generic over it.
     pub fn new(name: &[u8]) -> Result<Section, Refusal>
         ensures { result ≡ section_of name.now }
     {

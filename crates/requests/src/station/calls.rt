@@ -9,6 +9,7 @@ use std::array::from_fn;
 
 impl Station {
     // The station of that number, where there is one.
+    // Kept: files hold the number in a byte and lines in more, so one `new` serves both better than a conversion from each.
     pub fn new(number: u32) -> Result<Station, Refusal>
         ensures { MatchResult result (λ s. (s.number ≡ number) × (is_station number ≡ true)) (λ e. (e ≡ NoStation) × (is_station number ≡ false)) }
     {
@@ -36,7 +37,7 @@ impl Station {
         )
     }
 
-    // Kept: the field that clauses name, as `station.number`; a conversion would have no name for it.
+    // Kept: a getter of the field, by the name that clauses use.
     pub fn number(self) -> u8
         ensures { result ≡ self.number }
     {

@@ -10,13 +10,14 @@ use super::Number;
 use keys::Key;
 
 impl Number {
+    // Kept beside `Classes::new`: each kind of tally is made of its counts.
     pub fn new(value: u32) -> Number
         ensures { result ≡ number_of value }
     {
         Number { value }
     }
 
-    // Kept: the field that clauses name, as `tally.value`; a conversion would have no name for it.
+    // Kept: a getter of the field, by the name that clauses use.
     pub fn value(self) -> u32
         ensures { result ≡ self.value }
     {

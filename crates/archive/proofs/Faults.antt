@@ -14,7 +14,7 @@ none_first c cs h = go c.holds refl
   where
     go : (b : Bool) → c.holds ≡ b → c.holds ≡ true
     go true e = e
-    go false e = let u : Some c.fault ≡ None = rw e at h in let z : ◌≡◌ {A = ℕ} 0 1 = cc in absurd (omega arith)
+    go false e = let u : Some c.fault ≡ None = rw e at h in absurd cc
 
 pub none_others : (c : Check) (cs : List Check) → first_fault (c ∷ cs) ≡ None → first_fault cs ≡ None
 none_others c cs h = sym (first_past c cs (none_first c cs h)) ∙ h
@@ -42,7 +42,7 @@ none_front xs ys h = go (first_fault xs) refl
   where
     go : (o : Option Fault) → first_fault xs ≡ o → first_fault xs ≡ None
     go None e = e
-    go (Some f) e = let u = first_before xs ys f e in let z : ◌≡◌ {A = ℕ} 0 1 = cc in absurd (omega arith)
+    go (Some f) e = let u = first_before xs ys f e in absurd cc
 
 pub none_back : (xs ys : List Check) → first_fault (xs ++ ys) ≡ None → first_fault ys ≡ None
 none_back xs ys h = sym (first_after xs ys (none_front xs ys h)) ∙ h

@@ -28,7 +28,7 @@ numbered-past rows (suc i) h = slice_get_past rows i (omega arith)
 
 module _ {X : Type 0} (f : X → List ℕ) (size : ℕ) (long : (x : X) → length (f x) ≡ size) where
   run_at : (xs : List X) (i : ℕ) (x : X) (rest : List ℕ) → slice_get xs i ≡ Some x → take size (drop (i * size) (flat_map f xs ++ rest)) ≡ f x
-  run_at [] i x rest h = let z : ◌≡◌ {A = ℕ} 0 1 = cc in absurd (omega arith)
+  run_at [] i x rest h = absurd cc
   run_at (y ∷ ys) zero x rest h =
       let same : y ≡ x = cc in
       ap (λ n. take size (drop n ((f y ++ flat_map f ys) ++ rest))) (zero-mul size) ∙ ap (take size) (append_assoc (f y) (flat_map f ys) rest) ∙ take_at (f y) (flat_map f ys ++ rest) size (long y) ∙ ap f same

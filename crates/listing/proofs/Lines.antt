@@ -9,7 +9,7 @@ use Rattle.archive.proofs.Handed.{nth_there, numbered}
 use Rattle.listing.specs.RowTexts.{row_line, row_lines, last_line, listing_text}
 
 nth_drop : {X : Type 0} (xs : List X) (i : ℕ) (x : X) → slice_get xs i ≡ Some x → drop i xs ≡ x ∷ drop (i + 1) xs
-nth_drop [] i x h = let z : ◌≡◌ {A = ℕ} 0 1 = cc in absurd (omega arith)
+nth_drop [] i x h = absurd cc
 nth_drop (y ∷ ys) zero x h = let same : y ≡ x = cc in ap (λ z. z ∷ ys) same
 nth_drop (y ∷ ys) (suc j) x h =
     let step : suc j + 1 ≡ suc (j + 1) = omega arith in

@@ -23,7 +23,7 @@ count_past room total refusal = go (ltb room total) refl
   where
     go : (b : Bool) → ltb room total ≡ b → ◌≡◌ {A = Result ℕ Refusal} (Err refusal) (cond b (Err no.TooShort) (Ok total)) → ltb room total ≡ true
     go true e u = e
-    go false e u = let z : ◌≡◌ {A = ℕ} 0 1 = cc in absurd (omega arith)
+    go false e u = absurd cc
 
 module _ {A B : Type 0} (h : A → B) (all : List A) (row : List B) where
   pub over_past : (refusal : Refusal) → Err refusal ≡ counted_within (length row) (length all) → row ≡ written_within h all row

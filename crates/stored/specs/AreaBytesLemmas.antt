@@ -14,13 +14,13 @@ module _ {K : Type 0} (below : KeyForm K) where
       rw (low, h, two_read a.number)
 
   pub area_rewritten : ((bytes : List ℕ) (k : K) → below.read bytes ≡ Some k → below.written k ≡ bytes) → (bytes : List ℕ) (a : Area K) → area_read below bytes ≡ Some a → area_written below a ≡ bytes
-  area_rewritten law [] a h = let z : ◌≡◌ {A = ℕ} 0 1 = cc in absurd (omega arith)
-  area_rewritten law (x ∷ []) a h = let z : ◌≡◌ {A = ℕ} 0 1 = cc in absurd (omega arith)
+  area_rewritten law [] a h = absurd cc
+  area_rewritten law (x ∷ []) a h = absurd cc
   area_rewritten law (x ∷ y ∷ rest) a h = go (nat_lt y 256) refl (below.read rest) refl
     where
       go : (t : Bool) → nat_lt y 256 ≡ t → (o : Option K) → below.read rest ≡ o → area_written below a ≡ x ∷ y ∷ rest
-      go false t o p = let u : None ≡ Some a = rw t at h in let z : ◌≡◌ {A = ℕ} 0 1 = cc in absurd (omega arith)
-      go true t None p = let u : None ≡ Some a = rw (t, p) at h in let z : ◌≡◌ {A = ℕ} 0 1 = cc in absurd (omega arith)
+      go false t o p = let u : None ≡ Some a = rw t at h in absurd cc
+      go true t None p = let u : None ≡ Some a = rw (t, p) at h in absurd cc
       go true t (Some k) p =
           let u : Some (record { number = value (x ∷ y ∷ []); key = k }) ≡ Some a = rw (t, p) at h in
           let number : a.number ≡ value (x ∷ y ∷ []) = cc in

@@ -41,7 +41,7 @@ route_reread k =
 
 -- the fields of a route that numbers and a class make
 route_in_parts : (m n : ℕ) (c : Option Class) (k : Route) → route_in m n c ≡ Some k → (k.entry ≡ m) × (k.exit ≡ n) × (c ≡ Some k.class)
-route_in_parts m n None k h = let z : ◌≡◌ {A = ℕ} 0 1 = cc in absurd (omega arith)
+route_in_parts m n None k h = absurd cc
 route_in_parts m n (Some c) k h = go (is_signal m && is_signal n) refl
   where
     made : Route
@@ -54,15 +54,15 @@ route_in_parts m n (Some c) k h = go (is_signal m && is_signal n) refl
         let p : made.entry ≡ m = grind arith in
         let q : made.exit ≡ n = grind arith in
         (ap (λ r. r.entry) (sym same) ∙ p, ap (λ r. r.exit) (sym same) ∙ q, ap (λ r. Some r.class) same)
-    go false e = let none : None ≡ Some k = rw e at h in let z : ◌≡◌ {A = ℕ} 0 1 = cc in absurd (omega arith)
+    go false e = let none : None ≡ Some k = rw e at h in absurd cc
 
 -- bytes that read as a route are those that it writes
 pub route_rewritten : (bytes : List ℕ) (k : Route) → route_read bytes ≡ Some k → route_written k ≡ bytes
-route_rewritten [] k h = let z : ◌≡◌ {A = ℕ} 0 1 = cc in absurd (omega arith)
-route_rewritten (a ∷ []) k h = let z : ◌≡◌ {A = ℕ} 0 1 = cc in absurd (omega arith)
-route_rewritten (a ∷ b ∷ []) k h = let z : ◌≡◌ {A = ℕ} 0 1 = cc in absurd (omega arith)
-route_rewritten (a ∷ b ∷ c ∷ []) k h = let z : ◌≡◌ {A = ℕ} 0 1 = cc in absurd (omega arith)
-route_rewritten (a ∷ b ∷ c ∷ d ∷ []) k h = let z : ◌≡◌ {A = ℕ} 0 1 = cc in absurd (omega arith)
+route_rewritten [] k h = absurd cc
+route_rewritten (a ∷ []) k h = absurd cc
+route_rewritten (a ∷ b ∷ []) k h = absurd cc
+route_rewritten (a ∷ b ∷ c ∷ []) k h = absurd cc
+route_rewritten (a ∷ b ∷ c ∷ d ∷ []) k h = absurd cc
 route_rewritten (a ∷ b ∷ c ∷ d ∷ e ∷ []) k h = go (all_bytes (b ∷ d ∷ [])) refl
   where
     go : (t : Bool) → all_bytes (b ∷ d ∷ []) ≡ t → route_written k ≡ a ∷ b ∷ c ∷ d ∷ e ∷ []
@@ -75,8 +75,8 @@ route_rewritten (a ∷ b ∷ c ∷ d ∷ e ∷ []) k h = go (all_bytes (b ∷ d 
         let exit : two k.exit ≡ c ∷ d ∷ [] = ap two parts.1 ∙ two_written c d q in
         let class : class_number k.class ≡ e = class_rewritten e k.class parts.2 in
         ap (λ l. l ++ (two k.exit ++ (class_number k.class ∷ []))) entry ∙ ap (λ l. (a ∷ b ∷ []) ++ (l ++ (class_number k.class ∷ []))) exit ∙ ap (λ n. a ∷ b ∷ c ∷ d ∷ n ∷ []) class
-    go false t = let u : None ≡ Some k = rw t at h in let z : ◌≡◌ {A = ℕ} 0 1 = cc in absurd (omega arith)
-route_rewritten (a ∷ b ∷ c ∷ d ∷ e ∷ f ∷ rest) k h = let z : ◌≡◌ {A = ℕ} 0 1 = cc in absurd (omega arith)
+    go false t = let u : None ≡ Some k = rw t at h in absurd cc
+route_rewritten (a ∷ b ∷ c ∷ d ∷ e ∷ f ∷ rest) k h = absurd cc
 
 -- five bytes with a class are the route of their numbers, if these are signals
 pub route_read-class : (a b c d e : ℕ) (class : Class) → b < 256 → d < 256 → class_number class ≡ e → route_of (value (a ∷ b ∷ [])) (value (c ∷ d ∷ [])) class ≡ in_range (route_read (a ∷ b ∷ c ∷ d ∷ e ∷ []))

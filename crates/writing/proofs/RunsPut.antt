@@ -17,7 +17,7 @@ part_fits count i size room h e =
     omega arith
 
 taken_more : {X : Type 0} (f : X → List ℕ) (xs : List X) (i : ℕ) (x : X) → slice_get xs i ≡ Some x → flat_map f (take (i + 1) xs) ≡ flat_map f (take i xs) ++ f x
-taken_more f [] i x h = let z : ◌≡◌ {A = ℕ} 0 1 = cc in absurd (omega arith)
+taken_more f [] i x h = absurd cc
 taken_more f (y ∷ ys) zero x h = let same : y ≡ x = cc in append-nil (f y) ∙ ap f same
 taken_more f (y ∷ ys) (suc j) x h =
     let step : suc j + 1 ≡ suc (j + 1) = omega arith in

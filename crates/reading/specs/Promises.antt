@@ -1,5 +1,5 @@
 -- What reading off promises: the answer, and the row of keys afterwards.
-use Rattle.std.specs.Prelude.{◌≡◌, ℕ, ◌<◌, true, cond, List, ◌++◌, map, length, drop, Ok, Err, Result, nat_lt}
+use Rattle.std.specs.Prelude.{◌≡◌, ℕ, ◌+◌, ◌<◌, true, cond, List, ◌++◌, map, length, drop, Ok, Err, Result, nat_lt}
 use Rattle.keys.specs.declared.refusal.Refusal.{Refusal}
 use Rattle.keys.specs.declared.refusal.Refusal.TheVariants as no
 use Rattle.rules.specs.States.{State, leads}
@@ -17,6 +17,10 @@ keys_over parts keys row = map parts keys ++ drop (length keys) row
 -- how many keys are written, over a row for so many; more do not fit
 abbrev pub counted_within : ℕ → ℕ → Result ℕ Refusal
 counted_within row keys = cond (nat_lt row keys) (Err no.TooShort) (Ok keys)
+
+-- one key more, where there is room for it
+abbrev pub next_count : ℕ → ℕ → Result ℕ Refusal
+next_count room count = cond (nat_lt count room) (Ok (count + 1)) (Err no.TooShort)
 
 -- the row afterwards, left as it was if the keys do not fit
 abbrev pub written_within : {K F : Type 0} → (K → F) → List K → List F → List F

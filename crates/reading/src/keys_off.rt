@@ -1,53 +1,54 @@
 // The keys under the gate: counted first, so that a refusal leaves the row, and then written.
-ghost use Rattle.std.specs.Prelude.{◌≡◌, ◌≤◌, List, length, take, Err, nat_lt};
+ghost use Rattle.std.specs.Prelude.{◌≡◌, ◌≤◌, List, length, take, Err};
 ghost use Rattle.cells.specs.declared.desk.Desk.{Desk};
 ghost use Rattle.cells.specs.Views.{state_shown};
 ghost use Rattle.rules.specs.ReadOff.{keys_listed};
 ghost use Rattle.reading.specs.Walks.{firsts_under};
-ghost use Rattle.reading.specs.Promises.{Rising, counted_within, written_within, keys_over, keys_answer, keys_after};
+ghost use Rattle.reading.specs.Promises.{Rising, counted_within, next_count, written_within, keys_over, keys_answer, keys_after};
 
-use super::slots::first_of;
-use super::walk::Slots;
+use super::walk::Firsts;
 use cells::{Cell, Slot};
 use keys::{Key, Refusal};
 use tallies::Tally;
 
-// Whether there are more keys than the room.
-fn outnumber<F: Copy, T: Copy>(
+// How many keys there are, unless they outnumber the room.
+fn count_within<F: Copy, T: Copy>(
     live: &[Cell<F, T>],
     gate: Slot,
     room: usize,
     work: &mut [u16],
-) -> bool
+) -> Result<usize, Refusal>
     requires { length live.now ≤ length work.old }
-    ensures { result ≡ nat_lt room (length (firsts_under live.now gate)) }
+    ensures { result ≡ counted_within room (length (firsts_under live.now gate)) }
 {
-    Slots::new(live, gate, work)
-        .filter_map(|at| first_of(live, at))
-        .nth(room)
-        .is_some()
+    Firsts::new(live, gate, work).try_fold(
+        0,
+        |count: usize, _| -> Result<usize, Refusal>
+            ensures { result ≡ next_count room count }
+        {
+            if count < room {
+                Ok(count + 1)
+            } else {
+                Err(Refusal::TooShort)
+            }
+        },
+    )
 }
 
-// Writes the keys to the front of a row that has room for them; how many they are.
+// Writes the keys to the front of a row that has room for them.
 fn write_keys<K: Key, T: Copy>(
     live: &[Cell<K::Fields, T>],
     gate: Slot,
     row: &mut [K::Fields],
     work: &mut [u16],
-) -> usize
+)
     requires { (length live.now ≤ length work.old) × (length (firsts_under live.now gate) ≤ length row.old) }
-    ensures counted { result ≡ length (firsts_under live.now gate) }
-    ensures after { row.new ≡ keys_over (λ f. K.Key.parts (K.Key.made f)) (firsts_under live.now gate) row.old }
+    ensures { row.new ≡ keys_over (λ f. K.Key.parts (K.Key.made f)) (firsts_under live.now gate) row.old }
 {
     // Kept: of what is written through `iter_mut` a proof knows nothing afterwards, so keys go into the row by their place.
-    let mut count = 0;
-    for at in Slots::new(live, gate, work) {
-        if let Some(first) = first_of(live, at) {
-            row[count] = K::from_fields(first).fields();
-            count += 1;
-        }
+    for (i, first) in Firsts::new(live, gate, work).enumerate() {
+        row[i] = K::from_fields(first).fields();
     }
-    count
 }
 
 // Counts the keys and then writes them, unless they outnumber the row.
@@ -61,10 +62,9 @@ fn read_live<K: Key, T: Copy>(
     ensures answer { result ≡ counted_within (length row.old) (length (firsts_under live.now gate)) }
     ensures after { row.new ≡ written_within (λ f. K.Key.parts (K.Key.made f)) (firsts_under live.now gate) row.old }
 {
-    if outnumber(live, gate, row.len(), work) {
-        return Err(Refusal::TooShort);
-    }
-    Ok(write_keys::<K, T>(live, gate, row, work))
+    let count = count_within(live, gate, row.len(), work)?;
+    write_keys::<K, T>(live, gate, row, work);
+    Ok(count)
 }
 
 // The cells of the requests that were submitted.

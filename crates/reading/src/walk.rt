@@ -1,8 +1,8 @@
 // The walk over a row of cells: down to the left, and back to the right side of the last place in the work row.
 ghost use Rattle.std.specs.Prelude.{◌≡◌, ◌≤◌, [], ◌∷◌, length, Some, None};
-ghost use Rattle.reading.specs.Walks.{rising_from, visits, to_come, Stands};
+ghost use Rattle.reading.specs.Walks.{rising_from, visits, to_come, Stands, firsts_under};
 
-use super::slots::{rising, slot_of};
+use super::slots::{first_of, rising, slot_of};
 use cells::{Cell, Side, Slot};
 
 // The slot at hand, and how many places of the work row have their right side still to come.
@@ -56,6 +56,52 @@ impl<'a, F: Copy, T: Copy> Iterator for Slots<'a, F, T> {
         let work = &mut *self.work;
         self.walk = step(self.live, walk, work);
         Some(walk.at)
+    }
+}
+
+// The fields of the keys that the slots of a walk name.
+// Kept: at a loop over a `filter_map` chain in a generic function, rattle makes ill-typed goals once there is an invariant, so this is no chain.
+#[derive(Drop)]
+pub struct Firsts<'a, F, T> {
+    live: &'a [Cell<F, T>],
+    slots: Slots<'a, F, T>,
+}
+
+impl<'a, F: Copy, T: Copy> Firsts<'a, F, T> {
+    ghost use Rattle.reading.specs.Slots.{firsts_left, CanFind};
+
+    // All keys under the gate, by a work row with a number for each cell at least.
+    pub fn new(live: &'a [Cell<F, T>], gate: Slot, work: &'a mut [u16]) -> Firsts<'a, F, T>
+        requires { length live.now ≤ length work.old }
+        ensures firsts { firsts_left result ≡ firsts_under live.now gate }
+        ensures begun { CanFind result }
+    {
+        Firsts {
+            live,
+            slots: Slots::new(live, gate, work),
+        }
+    }
+}
+
+impl<'a, F: Copy, T: Copy> Iterator for Firsts<'a, F, T> {
+    type Item = F;
+
+    ghost use Rattle.std.specs.Iterator.{YieldsFirst, item_count};
+    ghost use Rattle.reading.specs.Slots.{firsts_left, CanFind};
+
+    ghost can_next = { CanFind };
+
+    ghost next_gives = { YieldsFirst firsts_left };
+
+    ghost remaining = { item_count firsts_left };
+
+    fn next(&mut self) -> Option<F> {
+        while let Some(at) = self.slots.next() {
+            if let Some(first) = first_of(self.live, at) {
+                return Some(first);
+            }
+        }
+        None
     }
 }
 

@@ -12,6 +12,7 @@ use keys::{Key, Refusal};
 use tallies::Tally;
 
 // How many keys there are, unless they outnumber the room.
+// Kept: cells, gate and work row are handed on once more, to the walk, which is the struct that holds them.
 fn count_within<F: Copy, T: Copy>(
     live: &[Cell<F, T>],
     gate: Slot,
@@ -45,7 +46,6 @@ fn write_keys<K: Key, T: Copy>(
     requires { (length live.now ≤ length work.old) × (length (firsts_under live.now gate) ≤ length row.old) }
     ensures { row.new ≡ keys_over (λ f. K.Key.parts (K.Key.made f)) (firsts_under live.now gate) row.old }
 {
-    // Kept: of what is written through `iter_mut` a proof knows nothing afterwards, so keys go into the row by their place.
     for (i, first) in Firsts::new(live, gate, work).enumerate() {
         row[i] = K::from_fields(first).fields();
     }
@@ -68,7 +68,6 @@ fn read_live<K: Key, T: Copy>(
 }
 
 // The cells of the requests that were submitted.
-// Kept: a count past the row has a promise too, so it can't be the length of a slice that callers pass.
 fn live_cells<F: Copy, T: Copy>(cells: &[Cell<F, T>], count: usize) -> &[Cell<F, T>]
     ensures { result.now ≡ take count cells.now }
 {
@@ -77,6 +76,7 @@ fn live_cells<F: Copy, T: Copy>(cells: &[Cell<F, T>], count: usize) -> &[Cell<F,
 
 // The keys under the gate, left before right, to the front of a row; how many they are.
 // A refusal leaves the row. The work row has a number for each request at least, and what it holds afterwards is free.
+// Kept: a count past the cells has a promise too, so it can't be the length of a slice that callers pass.
 pub fn read_keys<K: Key, T: Tally<K>>(
     cells: &[Cell<K::Fields, T>],
     count: usize,

@@ -60,7 +60,7 @@ impl<'a, F: Copy, T: Copy> Iterator for Slots<'a, F, T> {
 }
 
 // The fields of the keys that the slots of a walk name.
-// Kept: at a loop over a `filter_map` chain in a generic function, rattle makes ill-typed goals once there is an invariant, so this is no chain.
+// Kept as a type, tried as a chain: over `filter_map(..).enumerate()` in a generic function a loop's goal is ill-typed today.
 #[derive(Drop)]
 pub struct Firsts<'a, F, T> {
     live: &'a [Cell<F, T>],
@@ -96,6 +96,7 @@ impl<'a, F: Copy, T: Copy> Iterator for Firsts<'a, F, T> {
     ghost remaining = { item_count firsts_left };
 
     fn next(&mut self) -> Option<F> {
+        // Kept as a loop, tried as `find_map`: two goals of it stayed open.
         while let Some(at) = self.slots.next() {
             if let Some(first) = first_of(self.live, at) {
                 return Some(first);

@@ -5,7 +5,7 @@ set -u
 count=no
 if [ "${1:-}" = --count ]; then count=yes; shift; fi
 cd "${1:-$(dirname "$0")/..}" || exit 1
-mapfile -t files < <(find crates -path '*/src/*' -name '*.rt' | sort)
+mapfile -t files < <(find crates -name out -prune -o -path '*/src/*' -name '*.rt' -print | sort)
 
 # tell LABEL PATTERN: the lines that the pattern fits, comments aside.
 tell() {

@@ -17,8 +17,9 @@ fn main(rt: HostRuntime) -> anyhow::Result<()> {
     let bytes = fs::read(&rt, path.as_str())
         .ok()
         .context("the file cannot be opened")?;
-    let text = list(rt.alloc(), keys, tallies, bytes.as_slice())
-        .context("classes are counted of routes only")??;
+    let text = list(rt.alloc(), keys, tallies, bytes.as_slice()).context(
+        "classes are counted of routes only",
+    )??;
     rt.print(text.as_str())?;
     Ok(())
 }

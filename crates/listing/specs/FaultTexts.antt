@@ -11,12 +11,11 @@ use Rattle.archive.specs.declared.layer.Layer.{Layer}
 use Rattle.archive.specs.declared.layer.Layer.TheVariants.{Header, Requests, Answers}
 use Rattle.archive.specs.Checks.{field_at}
 use Rattle.archive.specs.Format.{header_length, request_length, answer_length}
-use Rattle.archive.specs.Layers.{layer_word}
+use Rattle.archive.specs.Layers.{fault_told}
 
--- number, layer, row and offset
+-- a fault as it is told, on a line of its own
 abbrev pub fault_line : Fault → List ℕ
-fault_line f =
-    codes "fault " ++ (decimal (refusal_number f.refusal) ++ (codes " " ++ (layer_word f.layer ++ (codes " row " ++ (decimal f.row ++ (codes " offset " ++ (decimal f.offset ++ codes "\n")))))))
+fault_line f = fault_told f ++ codes "\n"
 
 -- the number in the four bytes at an offset, 0 where there are not so many
 abbrev pub told_at : ℕ → List ℕ → ℕ

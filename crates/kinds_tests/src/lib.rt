@@ -1,4 +1,4 @@
-// Tests of the kinds at their edges: keys, tallies, stations, the words of a line, and words that are printed.
+// Tests of the kinds at their edges: keys, tallies, stations, and the words of a line.
 #![tactic(auto)]
 
 #[cfg(test)]

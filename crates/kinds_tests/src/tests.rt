@@ -1,8 +1,6 @@
 // The edges of the kinds, a few checks to each. Refusals are compared by their numbers, as documents tell them.
 use keys::{Area, Class, Key, Route, Section, is_below};
-use listing::UnknownKind;
 use requests::Station;
-use rules::{Carried, Mode, Note};
 use std::test::Fail;
 use tallies::{Classes, Number, Tally};
 use words::{number, read_route};
@@ -121,21 +119,5 @@ fn route_lines(rt: HostRuntime) -> Result<(), Fail> {
     assert_eq!(rt; read_route(b"12  14 C").map_err(u8::from), Err(11));
     assert_eq!(rt; read_route(b"12 14 C ").map_err(u8::from), Err(11));
     assert_eq!(rt; read_route(b"12 0 C").map_err(u8::from), Err(10));
-    Ok(())
-}
-
-#[test]
-fn printed_words(rt: HostRuntime) -> Result<(), Fail> {
-    let carried = Carried::Walking.to_string(rt.alloc())?;
-    assert_eq!(rt; carried.as_str(), "walking");
-    let mode = Mode::Upto.to_string(rt.alloc())?;
-    assert_eq!(rt; mode.as_str(), "upto");
-    let note = Note::None.to_string(rt.alloc())?;
-    assert_eq!(rt; note.as_str(), "none");
-    let unknown = UnknownKind::Tallies.to_string(rt.alloc())?;
-    assert_eq!(rt;
-        unknown.as_str(),
-        "TALLIES is number, classes or number+classes"
-    );
     Ok(())
 }

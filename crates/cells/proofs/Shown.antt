@@ -16,7 +16,7 @@ use Rattle.cells.specs.declared.slot.Slot.TheVariants as slot
 use Rattle.cells.specs.declared.waits.Waits.{Waits}
 use Rattle.cells.specs.Outcomes.{answer_of}
 use Rattle.cells.specs.Rosters.{roster}
-use Rattle.cells.specs.Views.{number_of, request_in, key_named, slot_shown, split_named, place_shown, state_shown}
+use Rattle.cells.specs.Views.{split_of, request_in, key_named, slot_shown, split_named, place_shown, state_shown}
 use Rattle.cells.proofs.Numbers.{numbered_bound, numbered-set, map_set_same, mapped_set-same}
 
 -- states with equal parts are equal
@@ -76,8 +76,8 @@ module _ {K F T : Type 0} (k : key.Ghosts K F) (t : tally.Ghosts T K F) where
 
   place_same : (live : List (Cell F T)) (i : ℕ) (c c' : Cell F T) → numbered live (suc i) ≡ Some c → SameRequest c c' → (x : Cell F T) → place_shown k t (set live i c') x ≡ place_shown k t live x
   place_same live i c c' e same x =
-      ap₂ (λ l r. option_map (λ s. record { split = s; left = l; right = r; tally = x.tally }) (split_named k t (set live i c') x.split)) (slot_same live i c c' e same x.left) (slot_same live i c c' e same x.right)
-      ∙ ap (option_map (λ s. record { split = s; left = slot_shown k t live x.left; right = slot_shown k t live x.right; tally = x.tally })) (split-same live i c c' e same x.split)
+      ap₂ (λ l r. option_map (λ s. record { split = s; left = l; right = r; tally = x.tally }) (split_named k t (set live i c') (split_of x))) (slot_same live i c c' e same x.left) (slot_same live i c c' e same x.right)
+      ∙ ap (option_map (λ s. record { split = s; left = slot_shown k t live x.left; right = slot_shown k t live x.right; tally = x.tally })) (split-same live i c c' e same (split_of x))
 
   -- the state shown with the parts of one cell written
   abbrev pub rewritten : State K T → List Waits → ℕ → Cell F T → Option (Place K T) → State K T
@@ -96,7 +96,7 @@ module _ {K F T : Type 0} (k : key.Ghosts K F) (t : tally.Ghosts T K F) where
       state_path _ _
       (ap (min 1024) (length-set cells i c'))
       (ap (map (request_in k t)) live ∙ map_set_same (request_in k t) (take count cells) i c c' e requests)
-      (by_part (λ x. number_of x.station) 0 ∙ part_same (λ x. number_of x.station) 0 (take count cells) i c c' e (ap number_of same.station))
+      (by_part (λ x. x.station) 0 ∙ part_same (λ x. x.station) 0 (take count cells) i c c' e same.station)
       (by_part (λ x. x.decision) None ∙ part_set (λ x. x.decision) None (take count cells) i c' long)
       (by_part (λ x. option_map answer_of x.outcome) None ∙ part_set (λ x. option_map answer_of x.outcome) None (take count cells) i c' long)
       (by_part (λ x. x.counted) t.none ∙ part_set (λ x. x.counted) t.none (take count cells) i c' long)

@@ -1,5 +1,5 @@
 -- A cell of a submitted request is written: what that makes of the state shown. Rests on Numbers.
-use Rattle.std.proofs.Common.{◌≡◌, ℕ, suc, ◌<◌, min, Bool, true, false, cond, eqb, List, map, length, take, set, Some, None, Option, sym, refl, ap, ap₂, ◌∙◌, length-set}
+use Rattle.std.proofs.Common.{◌≡◌, ℕ, suc, ◌<◌, ◌≤◌, min, Bool, true, false, cond, eqb, List, map, length, take, set, Some, None, Option, sym, refl, ap, ap₂, ◌∙◌, length-set}
 use mathlib.Core.Path.{fun_ext}
 use lib.Seq.{take-set-lt, map-set}
 use Rattle.std.specs.Option.{option_map}
@@ -118,3 +118,8 @@ module _ {K F T : Type 0} (k : key.Ghosts K F) (t : tally.Ghosts T K F) where
 
       by_part : {Y : Type 0} (f : Cell F T → Y) (none : Y) → ◌≡◌ {A = ℕ → Y} (λ j. elim (numbered (take count (set cells i c')) j) as (λ _. Y) [ None ↦ none | Some x ↦ f x ]) (λ j. elim (numbered (set (take count cells) i c') j) as (λ _. Y) [ None ↦ none | Some x ↦ f x ])
       by_part {Y = Y} f none = ap (λ v. (λ j. elim (numbered v j) as (λ _. Y) [ None ↦ none | Some x ↦ f x ])) live
+
+  -- the same of a row with a cell for each request
+  pub shown-set : (cells : List (Cell F T)) (count : ℕ) (gate : Slot) (desks : List Desk) (i : ℕ) (c c' : Cell F T) → i < count → count ≤ length cells → numbered (take count cells) (suc i) ≡ Some c → SameRequest c c'
+      → state_shown k t (set cells i c') count gate desks ≡ rewritten (state_shown k t cells count gate desks) (map (λ x. x.waits) (take count cells)) i c' (place_shown k t (take count cells) c')
+  shown-set cells count gate desks i c c' h n e same = shown_rewritten cells count gate desks i c c' h e same

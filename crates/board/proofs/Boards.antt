@@ -7,7 +7,7 @@ use Rattle.tallies.specs.declared.tally.Tally as tally
 use Rattle.rules.specs.Queues.{numbered}
 use Rattle.rules.specs.States.{State}
 use Rattle.cells.specs.declared.cell.Cell.{Cell}
-use Rattle.cells.specs.Views.{request_in, state_shown}
+use Rattle.cells.specs.Views.{split_of, request_in, state_shown}
 use Rattle.board.specs.declared.board.Board.{Board}
 use Rattle.board.specs.Cells.{live, key_of}
 use Rattle.board.specs.Of.{board_state, Turns, if_given}
@@ -53,7 +53,7 @@ module _ {K F T : Type 0} (k : key.Ghosts K F) (t : tally.Ghosts T K F) where
   is_given b number c s' e = ap (λ o. elim o as (λ _. State K T) [ None ↦ board_state k t b | Some r ↦ s' ]) (row_some (request_in k t) (live b) number c e)
 
   -- a cell whose slots and split are as they were still names only requests that were submitted
-  pub still_named : (b : Board K T F k t) (number : ℕ) (c c' : Cell F T) → numbered (live b) number ≡ Some c → c'.left ≡ c.left → c'.right ≡ c.right → c'.split ≡ c.split → ∥ CellNamed b.count c' ∥₁
+  pub still_named : (b : Board K T F k t) (number : ℕ) (c c' : Cell F T) → numbered (live b) number ≡ Some c → c'.left ≡ c.left → c'.right ≡ c.right → split_of c' ≡ split_of c → ∥ CellNamed b.count c' ∥₁
   still_named b number c c' e l r s = ∥∥₁_map b.named (λ old. kept_named b.count (live b) number c c' old.1 e l r s)
 
   module _ (b b' : Board K T F k t) (number : ℕ) where

@@ -7,6 +7,7 @@ use Rattle.cells.specs.declared.cell.Cell.{Cell}
 use Rattle.cells.specs.declared.slot.Slot.{Slot}
 use Rattle.cells.specs.declared.slot.Slot.TheVariants as slot
 use Rattle.cells.specs.Names.{SlotNamed, SplitNamed, CellNamed, CellsNamed}
+use Rattle.cells.specs.Views.{split_of}
 use Rattle.board.specs.Cells.{names}
 use Rattle.std.proofs.lemmas.Bool.{leb-true}
 
@@ -23,7 +24,7 @@ module _ {F T : Type 0} where
   cells-named-set n (x ∷ xs) (suc i) c h m = (h.0, cells-named-set n xs i c h.1 m)
 
   -- a cell whose slots and split are as they were names what it named
-  pub kept_named : (n : ℕ) (xs : List (Cell F T)) (j : ℕ) (c c' : Cell F T) → CellsNamed n xs → numbered xs j ≡ Some c → c'.left ≡ c.left → c'.right ≡ c.right → c'.split ≡ c.split → CellNamed n c'
+  pub kept_named : (n : ℕ) (xs : List (Cell F T)) (j : ℕ) (c c' : Cell F T) → CellsNamed n xs → numbered xs j ≡ Some c → c'.left ≡ c.left → c'.right ≡ c.right → split_of c' ≡ split_of c → CellNamed n c'
   kept_named n xs j c c' h e l r s =
       let was = cell_named n xs j c h e in
       (subst (SlotNamed n) (sym l) was.0, subst (SlotNamed n) (sym r) was.1, subst (SplitNamed n) (sym s) was.2)
@@ -46,7 +47,7 @@ split-named_prop n (Some i) = le_prop
 
 module _ {F T : Type 0} where
   cell_named_prop : (n : ℕ) (c : Cell F T) → IsProp (CellNamed n c)
-  cell_named_prop n c = ×₃_prop (slot-named_prop n c.left) (slot-named_prop n c.right) (split-named_prop n c.split)
+  cell_named_prop n c = ×₃_prop (slot-named_prop n c.left) (slot-named_prop n c.right) (split-named_prop n (split_of c))
 
   pub cells-named_prop : (n : ℕ) (xs : List (Cell F T)) → IsProp (CellsNamed n xs)
   cells-named_prop n [] = Unit-prop
@@ -64,7 +65,7 @@ split-named_more n (Some i) h = omega arith
 
 module _ {F T : Type 0} where
   cell_named_more : (n : ℕ) (c : Cell F T) → CellNamed n c → CellNamed (suc n) c
-  cell_named_more n c h = (slot-named_more n c.left h.0, slot-named_more n c.right h.1, split-named_more n c.split h.2)
+  cell_named_more n c h = (slot-named_more n c.left h.0, slot-named_more n c.right h.1, split-named_more n (split_of c) h.2)
 
   pub cells-named_more : (n : ℕ) (xs : List (Cell F T)) (c : Cell F T) → CellsNamed n xs → CellNamed (suc n) c → CellsNamed (suc n) (xs ++ (c ∷ []))
   cells-named_more n [] c h m = (m, tt)

@@ -16,7 +16,7 @@ use Rattle.cells.specs.declared.side.Side.TheVariants.{Left, Right}
 use Rattle.cells.specs.declared.slot.Slot.{Slot}
 use Rattle.cells.specs.declared.slot.Slot.TheVariants as slot
 use Rattle.cells.specs.Names.{SlotNamed, CellNamed}
-use Rattle.cells.specs.Views.{request_in, slot_shown, split_named, place_shown, state_shown}
+use Rattle.cells.specs.Views.{split_of, request_in, slot_shown, split_named, place_shown, state_shown}
 use Rattle.cells.proofs.Singles.{cell_placed, shown-placed, shown_unplaced}
 use Rattle.board.specs.declared.board.Board.{Board}
 use Rattle.board.specs.Cells.{live, key_of, slot_of, slot_beside, tally_of, side_shown}
@@ -30,11 +30,11 @@ module _ {K F T : Type 0} (k : key.Ghosts K F) (t : tally.Ghosts T K F) where
   place_of cells c s = record { split = s; left = slot_shown k t cells c.left; right = slot_shown k t cells c.right; tally = c.tally }
 
   -- a place whose split is named is all that its cell says, and no other is shown
-  pub made-shown : (cells : List (Cell F T)) (c : Cell F T) (o : Option K) → split_named k t cells c.split ≡ o → place_shown k t cells c ≡ option_map (place_of cells c) o
+  pub made-shown : (cells : List (Cell F T)) (c : Cell F T) (o : Option K) → split_named k t cells (split_of c) ≡ o → place_shown k t cells c ≡ option_map (place_of cells c) o
   made-shown cells c o is = ap (option_map (place_of cells c)) is
 
-  pub split-shown : (cells : List (Cell F T)) (c : Cell F T) → option_map (λ (f : Place K T). f.split) (place_shown k t cells c) ≡ split_named k t cells c.split
-  split-shown cells c = go (split_named k t cells c.split)
+  pub split-shown : (cells : List (Cell F T)) (c : Cell F T) → option_map (λ (f : Place K T). f.split) (place_shown k t cells c) ≡ split_named k t cells (split_of c)
+  split-shown cells c = go (split_named k t cells (split_of c))
     where
       go : (o : Option K) → option_map (λ (f : Place K T). f.split) (option_map (place_of cells c) o) ≡ o
       go None = refl
@@ -65,7 +65,7 @@ module _ {K F T : Type 0} (k : key.Ghosts K F) (t : tally.Ghosts T K F) where
 
   -- with a place of two keys, by their numbers
   abbrev pub made_cell : ℕ → ℕ → T → Cell F T → Cell F T
-  made_cell low high tally c = record c { split = Some high; left = slot.Key low; right = slot.Key high; tally = tally }
+  made_cell low high tally c = record c { made = true; split = high; left = slot.Key low; right = slot.Key high; tally = tally }
 
   module _ (b b' : Board K T F k t) (p : ℕ) where
     abbrev s : State K T
@@ -82,15 +82,15 @@ module _ {K F T : Type 0} (k : key.Ghosts K F) (t : tally.Ghosts T K F) where
         (λ e. absurd (let z : None ≡ Some v = sym (ap (option_map (λ (f : Place K T). f.split)) (place-past b p e)) ∙ is in let y : ◌≡◌ {A = ℕ} 0 1 = cc in omega arith))
         (λ i c n h at.
         let here : s.place p ≡ place_shown k t (live b) c = place_at b p c (ap (numbered (live b)) n ∙ at) in
-        let split : split_named k t (live b) c.split ≡ Some v = sym (split-shown (live b) c) ∙ ap (option_map (λ (f : Place K T). f.split)) (sym here) ∙ is in
+        let split : split_named k t (live b) (split_of c) ≡ Some v = sym (split-shown (live b) c) ∙ ap (option_map (λ (f : Place K T). f.split)) (sym here) ∙ is in
         on_side side i c h at split
         ∙ ap (λ z. with_place s (suc i) (with_slot_on (old c v) z (slot_of k t b x))) own
         ∙ sym (to_place i c n (here ∙ made-shown (live b) c (Some v) split)))
       where
-        on_side : (z : Side) (i : ℕ) (c : Cell F T) → i < b.count → numbered (live b) (suc i) ≡ Some c → split_named k t (live b) c.split ≡ Some v
+        on_side : (z : Side) (i : ℕ) (c : Cell F T) → i < b.count → numbered (live b) (suc i) ≡ Some c → split_named k t (live b) (split_of c) ≡ Some v
             → state_shown k t (set b.cells.now i (cell_slotted c z x)) b.count b.gate b.desks ≡ with_place s (suc i) (with_slot_on (old c v) (side_shown z) (slot_of k t b x))
-        on_side Left i c h at split = shown-placed k t b.cells.now b.count b.gate b.desks i c h at c.split x c.right c.tally (with_slot_on (old c v) on_left (slot_of k t b x)) (made-shown (live b) (cell_slotted c Left x) (Some v) split)
-        on_side Right i c h at split = shown-placed k t b.cells.now b.count b.gate b.desks i c h at c.split c.left x c.tally (with_slot_on (old c v) on_right (slot_of k t b x)) (made-shown (live b) (cell_slotted c Right x) (Some v) split)
+        on_side Left i c h at split = shown-placed k t b.cells.now b.count b.gate b.desks i c h at c.made c.split x c.right c.tally (with_slot_on (old c v) on_left (slot_of k t b x)) (made-shown (live b) (cell_slotted c Left x) (Some v) split)
+        on_side Right i c h at split = shown-placed k t b.cells.now b.count b.gate b.desks i c h at c.made c.split c.left x c.tally (with_slot_on (old c v) on_right (slot_of k t b x)) (made-shown (live b) (cell_slotted c Right x) (Some v) split)
 
         to_place : (i : ℕ) (c : Cell F T) → p ≡ suc i → s.place p ≡ Some (old c v) → with_slot_for (kinds_of k t) s p j (slot_of k t b x) ≡ with_place s (suc i) (with_slot_on (old c v) (cond (before (kinds_of k t) j v) on_left on_right) (slot_of k t b x))
         to_place i c n place =
@@ -102,18 +102,18 @@ module _ {K F T : Type 0} (k : key.Ghosts K F) (t : tally.Ghosts T K F) where
     tally-put weight r =
         changed k t b b' p (joined_cell weight) r (λ _ s'. s' ≡ with_joined (kinds_of k t) s p weight)
         (λ e. sym (by_place None (place-past b p e)))
-        (λ i c n h at. go i c n h at (split_named k t (live b) c.split) refl)
+        (λ i c n h at. go i c n h at (split_named k t (live b) (split_of c)) refl)
       where
         by_place : (o : Option (Place K T)) → s.place p ≡ o → with_joined (kinds_of k t) s p weight ≡ elim o as (λ _. State K T) [ None ↦ s | Some f ↦ with_place s p (with_tally f (t.joined f.tally weight)) ]
         by_place o is = ap (λ v. elim v as (λ _. State K T) [ None ↦ s | Some f ↦ with_place s p (with_tally f (t.joined f.tally weight)) ]) is
 
-        go : (i : ℕ) (c : Cell F T) → p ≡ suc i → i < b.count → numbered (live b) (suc i) ≡ Some c → (o : Option K) → split_named k t (live b) c.split ≡ o
+        go : (i : ℕ) (c : Cell F T) → p ≡ suc i → i < b.count → numbered (live b) (suc i) ≡ Some c → (o : Option K) → split_named k t (live b) (split_of c) ≡ o
             → state_shown k t (set b.cells.now i (joined_cell weight c)) b.count b.gate b.desks ≡ with_joined (kinds_of k t) s p weight
         go i c n h at None is =
-            shown_unplaced k t b.cells.now b.count b.gate b.desks i c h at c.split c.left c.right (t.joined c.tally weight) (made-shown (live b) c None is) (made-shown (live b) (joined_cell weight c) None is)
+            shown_unplaced k t b.cells.now b.count b.gate b.desks i c h at c.made c.split c.left c.right (t.joined c.tally weight) (made-shown (live b) c None is) (made-shown (live b) (joined_cell weight c) None is)
             ∙ sym (by_place None (place_at b p c (ap (numbered (live b)) n ∙ at) ∙ made-shown (live b) c None is))
         go i c n h at (Some v) is =
-            shown-placed k t b.cells.now b.count b.gate b.desks i c h at c.split c.left c.right (t.joined c.tally weight) (with_tally (old c v) (t.joined c.tally weight)) (made-shown (live b) (joined_cell weight c) (Some v) is)
+            shown-placed k t b.cells.now b.count b.gate b.desks i c h at c.made c.split c.left c.right (t.joined c.tally weight) (with_tally (old c v) (t.joined c.tally weight)) (made-shown (live b) (joined_cell weight c) (Some v) is)
             ∙ ap (λ q. with_place s q (with_tally (old c v) (t.joined c.tally weight))) (sym n)
             ∙ sym (by_place (Some (old c v)) (place_at b p c (ap (numbered (live b)) n ∙ at) ∙ made-shown (live b) c (Some v) is))
 
@@ -128,7 +128,7 @@ module _ {K F T : Type 0} (k : key.Ghosts K F) (t : tally.Ghosts T K F) where
         changed k t b b' p (made_cell (cond ord other p) (cond ord p other) sum) r (λ _ s'. s' ≡ made_after k t b p other)
         (λ e. absurd (let z : None ≡ Some own = sym (ap (option_map (λ (x : Cell F T). k.made x.first)) e) ∙ mine in let y : ◌≡◌ {A = ℕ} 0 1 = cc in omega arith))
         (λ i c n h at.
-        shown-placed k t b.cells.now b.count b.gate b.desks i c h at (Some (cond ord p other)) (slot.Key (cond ord other p)) (slot.Key (cond ord p other)) sum (made_place (kinds_of k t) held own) (shape c ord le)
+        shown-placed k t b.cells.now b.count b.gate b.desks i c h at true (cond ord p other) (slot.Key (cond ord other p)) (slot.Key (cond ord p other)) sum (made_place (kinds_of k t) held own) (shape c ord le)
         ∙ ap (λ q. with_place s q (made_place (kinds_of k t) held own)) (sym n)
         ∙ sym after)
       where
@@ -145,13 +145,13 @@ module _ {K F T : Type 0} (k : key.Ghosts K F) (t : tally.Ghosts T K F) where
         same_place low high l r split a x y = cc
 
         shape : (c : Cell F T) (z : Bool) → k.le held own ≡ z
-            → place_shown k t (live b) (cell_placed c (Some (cond z p other)) (slot.Key (cond z other p)) (slot.Key (cond z p other)) (t.joined (t.weighed held) (t.weighed own))) ≡ Some (made_place (kinds_of k t) held own)
+            → place_shown k t (live b) (cell_placed c true (cond z p other) (slot.Key (cond z other p)) (slot.Key (cond z p other)) (t.joined (t.weighed held) (t.weighed own))) ≡ Some (made_place (kinds_of k t) held own)
         shape c true u =
-            made-shown (live b) (cell_placed c (Some p) (slot.Key other) (slot.Key p) (t.joined (t.weighed held) (t.weighed own))) (Some own) mine
+            made-shown (live b) (cell_placed c true p (slot.Key other) (slot.Key p) (t.joined (t.weighed held) (t.weighed own))) (Some own) mine
             ∙ same_place held own (slot_of k t b (slot.Key other)) (slot_of k t b (slot.Key p)) own refl (key-slot other held is) (key-slot p own mine)
             ∙ ap (λ z. Some (record { split = cond z own held; left = rules.holds (cond z held own); right = rules.holds (cond z own held); tally = t.joined (t.weighed held) (t.weighed own) })) (sym u)
         shape c false u =
-            made-shown (live b) (cell_placed c (Some other) (slot.Key p) (slot.Key other) (t.joined (t.weighed held) (t.weighed own))) (Some held) is
+            made-shown (live b) (cell_placed c true other (slot.Key p) (slot.Key other) (t.joined (t.weighed held) (t.weighed own))) (Some held) is
             ∙ same_place own held (slot_of k t b (slot.Key p)) (slot_of k t b (slot.Key other)) held refl (key-slot p own mine) (key-slot other held is)
             ∙ ap (λ z. Some (record { split = cond z own held; left = rules.holds (cond z held own); right = rules.holds (cond z own held); tally = t.joined (t.weighed held) (t.weighed own) })) (sym u)
 

@@ -1,11 +1,10 @@
 -- A request more: its cell, and the state with it.
-use Rattle.std.specs.Prelude.{ℕ, suc, Some, None}
+use Rattle.std.specs.Prelude.{ℕ, suc, false, Some, None}
 use Rattle.keys.specs.declared.key.Key as key
 use Rattle.tallies.specs.declared.tally.Tally as tally
 use Rattle.requests.specs.Requests.{kind_of}
 use Rattle.requests.specs.declared.request.Request.{Request}
 use Rattle.requests.specs.declared.request.Request.TheVariants.{Enter, Withdraw, LookUp, Count}
-use Rattle.requests.specs.declared.station.Station.{Station}
 use Rattle.rules.specs.declared.mode.Mode.TheVariants.{Between}
 use Rattle.rules.specs.Changes.{with_request, with_waiter, with_uncollected}
 use Rattle.rules.specs.Queues.{given}
@@ -28,9 +27,9 @@ last_key (LookUp k) = k
 last_key (Count lo hi) = hi
 
 -- the cell of a request just submitted: it waits at the gate, and no place is made
-abbrev pub fresh_cell : {K F T : Type 0} → key.Ghosts K F → tally.Ghosts T K F → Station → Request K → Cell F T
+abbrev pub fresh_cell : {K F T : Type 0} → key.Ghosts K F → tally.Ghosts T K F → ℕ → Request K → Cell F T
 fresh_cell k t n r = record {
-  station = Some n;
+  station = n;
   kind = kind_of r;
   first = k.parts (first_key r);
   second = k.parts (last_key r);
@@ -38,7 +37,8 @@ fresh_cell k t n r = record {
   outcome = None;
   counted = t.none;
   waits = waits.Between 0;
-  split = None;
+  made = false;
+  split = 0;
   left = slot.Empty;
   right = slot.Empty;
   tally = t.none;

@@ -1,5 +1,5 @@
 -- A cell of a submitted request is written: what that makes of the state shown. Rests on Numbers.
-use Rattle.std.proofs.Common.{◌≡◌, ℕ, suc, ◌<◌, min, Bool, true, false, cond, eqb, List, map, length, take, set, Some, None, Option, sym, refl, ap, ap₂, ◌∙◌, length-set}
+use Rattle.std.proofs.Common.{◌≡◌, ℕ, suc, ◌<◌, ◌≤◌, min, Bool, true, false, cond, eqb, List, map, length, take, set, Some, None, Option, sym, refl, ap, ap₂, ◌∙◌, length-set}
 use mathlib.Core.Path.{fun_ext}
 use lib.Seq.{take-set-lt, map-set}
 use Rattle.std.specs.Option.{option_map}
@@ -16,7 +16,7 @@ use Rattle.cells.specs.declared.slot.Slot.TheVariants as slot
 use Rattle.cells.specs.declared.waits.Waits.{Waits}
 use Rattle.cells.specs.Outcomes.{answer_of}
 use Rattle.cells.specs.Rosters.{roster}
-use Rattle.cells.specs.Views.{number_of, request_in, key_named, slot_shown, split_named, place_shown, state_shown}
+use Rattle.cells.specs.Views.{split_of, request_in, key_named, slot_shown, split_named, place_shown, state_shown}
 use Rattle.cells.proofs.Numbers.{numbered_bound, numbered-set, map_set_same, mapped_set-same}
 
 -- states with equal parts are equal
@@ -76,8 +76,8 @@ module _ {K F T : Type 0} (k : key.Ghosts K F) (t : tally.Ghosts T K F) where
 
   place_same : (live : List (Cell F T)) (i : ℕ) (c c' : Cell F T) → numbered live (suc i) ≡ Some c → SameRequest c c' → (x : Cell F T) → place_shown k t (set live i c') x ≡ place_shown k t live x
   place_same live i c c' e same x =
-      ap₂ (λ l r. option_map (λ s. record { split = s; left = l; right = r; tally = x.tally }) (split_named k t (set live i c') x.split)) (slot_same live i c c' e same x.left) (slot_same live i c c' e same x.right)
-      ∙ ap (option_map (λ s. record { split = s; left = slot_shown k t live x.left; right = slot_shown k t live x.right; tally = x.tally })) (split-same live i c c' e same x.split)
+      ap₂ (λ l r. option_map (λ s. record { split = s; left = l; right = r; tally = x.tally }) (split_named k t (set live i c') (split_of x))) (slot_same live i c c' e same x.left) (slot_same live i c c' e same x.right)
+      ∙ ap (option_map (λ s. record { split = s; left = slot_shown k t live x.left; right = slot_shown k t live x.right; tally = x.tally })) (split-same live i c c' e same (split_of x))
 
   -- the state shown with the parts of one cell written
   abbrev pub rewritten : State K T → List Waits → ℕ → Cell F T → Option (Place K T) → State K T
@@ -96,7 +96,7 @@ module _ {K F T : Type 0} (k : key.Ghosts K F) (t : tally.Ghosts T K F) where
       state_path _ _
       (ap (min 1024) (length-set cells i c'))
       (ap (map (request_in k t)) live ∙ map_set_same (request_in k t) (take count cells) i c c' e requests)
-      (by_part (λ x. number_of x.station) 0 ∙ part_same (λ x. number_of x.station) 0 (take count cells) i c c' e (ap number_of same.station))
+      (by_part (λ x. x.station) 0 ∙ part_same (λ x. x.station) 0 (take count cells) i c c' e same.station)
       (by_part (λ x. x.decision) None ∙ part_set (λ x. x.decision) None (take count cells) i c' long)
       (by_part (λ x. option_map answer_of x.outcome) None ∙ part_set (λ x. option_map answer_of x.outcome) None (take count cells) i c' long)
       (by_part (λ x. x.counted) t.none ∙ part_set (λ x. x.counted) t.none (take count cells) i c' long)
@@ -118,3 +118,8 @@ module _ {K F T : Type 0} (k : key.Ghosts K F) (t : tally.Ghosts T K F) where
 
       by_part : {Y : Type 0} (f : Cell F T → Y) (none : Y) → ◌≡◌ {A = ℕ → Y} (λ j. elim (numbered (take count (set cells i c')) j) as (λ _. Y) [ None ↦ none | Some x ↦ f x ]) (λ j. elim (numbered (set (take count cells) i c') j) as (λ _. Y) [ None ↦ none | Some x ↦ f x ])
       by_part {Y = Y} f none = ap (λ v. (λ j. elim (numbered v j) as (λ _. Y) [ None ↦ none | Some x ↦ f x ])) live
+
+  -- the same of a row with a cell for each request
+  pub shown-set : (cells : List (Cell F T)) (count : ℕ) (gate : Slot) (desks : List Desk) (i : ℕ) (c c' : Cell F T) → i < count → count ≤ length cells → numbered (take count cells) (suc i) ≡ Some c → SameRequest c c'
+      → state_shown k t (set cells i c') count gate desks ≡ rewritten (state_shown k t cells count gate desks) (map (λ x. x.waits) (take count cells)) i c' (place_shown k t (take count cells) c')
+  shown-set cells count gate desks i c c' h n e same = shown_rewritten cells count gate desks i c c' h e same

@@ -50,8 +50,8 @@ abbrev pub cell_waiting : {F T : Type 0} → Cell F T → Waits → Cell F T
 cell_waiting c w = record c { waits = w }
 
 -- with its place
-abbrev pub cell_placed : {F T : Type 0} → Cell F T → Option ℕ → Slot → Slot → T → Cell F T
-cell_placed c s l r v = record c { split = s; left = l; right = r; tally = v }
+abbrev pub cell_placed : {F T : Type 0} → Cell F T → Bool → ℕ → Slot → Slot → T → Cell F T
+cell_placed c m s l r v = record c { made = m; split = s; left = l; right = r; tally = v }
 
 -- where all requests wait, by number
 abbrev pub waits_row : {F T : Type 0} → List (Cell F T) → ℕ → List Waits
@@ -100,20 +100,20 @@ module _ {K F T : Type 0} (k : key.Ghosts K F) (t : tally.Ghosts T K F) where
         ∙ state_path _ _ refl refl refl (kept (λ x. x.decision) None) (kept (λ x. option_map answer_of x.outcome) None) (kept (λ x. x.counted) t.none) refl (kept (place_shown k t (take count cells)) None) refl refl
 
     -- whatever the cell then shows as its place
-    pub shown-place : (sp : Option ℕ) (l r : Slot) (v : T)
-        → state_shown k t (set cells i (cell_placed c sp l r v)) count gate desks ≡ with_place_shown (state_shown k t cells count gate desks) (suc i) (place_shown k t (take count cells) (cell_placed c sp l r v))
-    shown-place sp l r v =
-        shown_rewritten k t cells count gate desks i c (cell_placed c sp l r v) h e (record { station = refl; kind = refl; first = refl; second = refl })
+    pub shown-place : (m : Bool) (sp : ℕ) (l r : Slot) (v : T)
+        → state_shown k t (set cells i (cell_placed c m sp l r v)) count gate desks ≡ with_place_shown (state_shown k t cells count gate desks) (suc i) (place_shown k t (take count cells) (cell_placed c m sp l r v))
+    shown-place m sp l r v =
+        shown_rewritten k t cells count gate desks i c (cell_placed c m sp l r v) h e (record { station = refl; kind = refl; first = refl; second = refl })
         ∙ state_path _ _ refl refl refl (kept (λ x. x.decision) None) (kept (λ x. option_map answer_of x.outcome) None) (kept (λ x. x.counted) t.none) refl refl (waits_kept) refl
 
-    pub shown-placed : (sp : Option ℕ) (l r : Slot) (v : T) (f : Place K T) → place_shown k t (take count cells) (cell_placed c sp l r v) ≡ Some f
-        → state_shown k t (set cells i (cell_placed c sp l r v)) count gate desks ≡ with_place (state_shown k t cells count gate desks) (suc i) f
-    shown-placed sp l r v f is = shown-place sp l r v ∙ ap (with_place_shown (state_shown k t cells count gate desks) (suc i)) is
+    pub shown-placed : (m : Bool) (sp : ℕ) (l r : Slot) (v : T) (f : Place K T) → place_shown k t (take count cells) (cell_placed c m sp l r v) ≡ Some f
+        → state_shown k t (set cells i (cell_placed c m sp l r v)) count gate desks ≡ with_place (state_shown k t cells count gate desks) (suc i) f
+    shown-placed m sp l r v f is = shown-place m sp l r v ∙ ap (with_place_shown (state_shown k t cells count gate desks) (suc i)) is
 
     -- no place before, and none now
-    pub shown_unplaced : (sp : Option ℕ) (l r : Slot) (v : T) → place_shown k t (take count cells) c ≡ None → place_shown k t (take count cells) (cell_placed c sp l r v) ≡ None
-        → state_shown k t (set cells i (cell_placed c sp l r v)) count gate desks ≡ state_shown k t cells count gate desks
-    shown_unplaced sp l r v was is =
-        shown-place sp l r v
+    pub shown_unplaced : (m : Bool) (sp : ℕ) (l r : Slot) (v : T) → place_shown k t (take count cells) c ≡ None → place_shown k t (take count cells) (cell_placed c m sp l r v) ≡ None
+        → state_shown k t (set cells i (cell_placed c m sp l r v)) count gate desks ≡ state_shown k t cells count gate desks
+    shown_unplaced m sp l r v was is =
+        shown-place m sp l r v
         ∙ ap (with_place_shown (state_shown k t cells count gate desks) (suc i)) (is ∙ sym was)
         ∙ state_path _ _ refl refl refl refl refl refl refl (kept (place_shown k t (take count cells)) None) refl refl

@@ -3,6 +3,7 @@ use Rattle.std.proofs.Common.{◌≡◌, ℕ, zero, suc, ◌+◌, ◌<◌, ◌�
 use mathlib.Core.Path.{fun_ext}
 use mathlib.Core.List.{map-append}
 use lib.ListN.{length-map}
+use Rattle.std.specs.Bool.{then_some}
 use Rattle.std.specs.Option.{option_map}
 use Rattle.std.proofs.lemmas.List.{take_more_set, append-nil}
 use Rattle.keys.specs.declared.key.Key as key
@@ -22,7 +23,7 @@ use Rattle.cells.specs.declared.waits.Waits.TheVariants as waits
 use Rattle.cells.specs.Outcomes.{answer_of}
 use Rattle.cells.specs.Names.{SlotNamed, SplitNamed, CellNamed, CellsNamed}
 use Rattle.cells.specs.Rosters.{roster, waiter_if, mode_at}
-use Rattle.cells.specs.Views.{number_of, request_in, key_named, slot_shown, split_named, place_shown, state_shown}
+use Rattle.cells.specs.Views.{split_of, request_in, key_named, slot_shown, split_named, place_shown, state_shown}
 use Rattle.cells.proofs.Numbers.{numbered_more, numbered-set}
 use Rattle.cells.proofs.Rosters.{roster_more}
 use Rattle.cells.proofs.Shown.{state_path}
@@ -66,8 +67,8 @@ module _ {K F T : Type 0} (k : key.Ghosts K F) (t : tally.Ghosts T K F) where
 
   place_more : (live : List (Cell F T)) (c x : Cell F T) → CellNamed (length live) x → place_shown k t (live ++ (c ∷ [])) x ≡ place_shown k t live x
   place_more live c x h =
-      ap₂ (λ l r. option_map (λ s. record { split = s; left = l; right = r; tally = x.tally }) (split_named k t (live ++ (c ∷ [])) x.split)) (slot_more live c x.left h.0) (slot_more live c x.right h.1)
-      ∙ ap (option_map (λ s. record { split = s; left = slot_shown k t live x.left; right = slot_shown k t live x.right; tally = x.tally })) (split_more live c x.split h.2)
+      ap₂ (λ l r. option_map (λ s. record { split = s; left = l; right = r; tally = x.tally }) (split_named k t (live ++ (c ∷ [])) (split_of x))) (slot_more live c x.left h.0) (slot_more live c x.right h.1)
+      ∙ ap (option_map (λ s. record { split = s; left = slot_shown k t live x.left; right = slot_shown k t live x.right; tally = x.tally })) (split_more live c (split_of x) h.2)
 
   -- the places of all cells are shown as before
   places_more : (live : List (Cell F T)) (c : Cell F T) (xs : List (Cell F T)) → CellsNamed (length live) xs → (j : ℕ)
@@ -79,13 +80,17 @@ module _ {K F T : Type 0} (k : key.Ghosts K F) (t : tally.Ghosts T K F) where
 
   -- a cell that is the next request, at the gate and without a place
   pub record NextCell (n : ℕ) (r : Request K) (c : Cell F T) : Type 0 where
-    pub station : number_of c.station ≡ n
+    pub station : c.station ≡ n
     pub request : request_in k t c ≡ r
     pub decision : c.decision ≡ None
     pub outcome : c.outcome ≡ None
     pub counted : c.counted ≡ t.none
     pub waits : c.waits ≡ waits.Between 0
-    pub split : c.split ≡ None
+    pub made : c.made ≡ false
+
+  -- a cell whose place is not made shows none
+  unmade : (live : List (Cell F T)) (c : Cell F T) → c.made ≡ false → place_shown k t live c ≡ None
+  unmade live c e = ap (λ b. option_map (λ s. record { split = s; left = slot_shown k t live c.left; right = slot_shown k t live c.right; tally = c.tally }) (split_named k t live (then_some b c.split))) e
 
   -- the desk of station n with its uncollected request written
   desk-set : (desks : List Desk) (n : ℕ) (d : Desk) (v : Option ℕ) → n < length desks → numbered desks (suc n) ≡ Some d
@@ -106,14 +111,14 @@ module _ {K F T : Type 0} (k : key.Ghosts K F) (t : tally.Ghosts T K F) where
       state_path _ _
       (ap (min 1024) (length-set cells count c))
       (ap (map (request_in k t)) live ∙ map-append (request_in k t) (take count cells) (c ∷ []) ∙ ap (λ v. map (request_in k t) (take count cells) ++ (v ∷ [])) next.request)
-      (by_part (λ x. number_of x.station) 0 ∙ part_more (λ x. number_of x.station) 0 (take count cells) c ∙ ap (λ i. put (λ j. elim (numbered (take count cells) j) as (λ _. ℕ) [ None ↦ 0 | Some x ↦ number_of x.station ]) (suc i) (number_of c.station)) long ∙ ap (put (λ j. elim (numbered (take count cells) j) as (λ _. ℕ) [ None ↦ 0 | Some x ↦ number_of x.station ]) (suc count)) next.station)
+      (by_part (λ x. x.station) 0 ∙ part_more (λ x. x.station) 0 (take count cells) c ∙ ap (λ i. put (λ j. elim (numbered (take count cells) j) as (λ _. ℕ) [ None ↦ 0 | Some x ↦ x.station ]) (suc i) c.station) long ∙ ap (put (λ j. elim (numbered (take count cells) j) as (λ _. ℕ) [ None ↦ 0 | Some x ↦ x.station ]) (suc count)) next.station)
       (nothing (λ x. x.decision) None next.decision)
       (nothing (λ x. option_map answer_of x.outcome) None (ap (option_map answer_of) next.outcome))
       (nothing (λ x. x.counted) t.none next.counted)
       (ap (λ v. slot_shown k t v gate) live ∙ slot_more (take count cells) c gate (subst (λ i. SlotNamed i gate) (sym long) named))
       (ap (λ v. (λ j. elim (numbered v j) as (λ _. Option (Place K T)) [ None ↦ None | Some x ↦ place_shown k t v x ])) live
       ∙ part_more (place_shown k t (take count cells ++ (c ∷ []))) None (take count cells) c
-      ∙ ap (put (λ j. elim (numbered (take count cells) j) as (λ _. Option (Place K T)) [ None ↦ None | Some x ↦ place_shown k t (take count cells ++ (c ∷ [])) x ]) (suc (length (take count cells)))) (ap (λ o. option_map (λ s. record { split = s; left = slot_shown k t (take count cells ++ (c ∷ [])) c.left; right = slot_shown k t (take count cells ++ (c ∷ [])) c.right; tally = c.tally }) (split_named k t (take count cells ++ (c ∷ [])) o)) next.split)
+      ∙ ap (put (λ j. elim (numbered (take count cells) j) as (λ _. Option (Place K T)) [ None ↦ None | Some x ↦ place_shown k t (take count cells ++ (c ∷ [])) x ]) (suc (length (take count cells)))) (unmade (take count cells ++ (c ∷ [])) c next.made)
       ∙ put-none (place_shown k t (take count cells ++ (c ∷ []))) None (take count cells)
       ∙ fun_ext (places_more (take count cells) c (take count cells) (subst (λ i. CellsNamed i (take count cells)) (sym long) all)))
       (fun_ext (λ p. queue p))

@@ -1,5 +1,6 @@
 -- The state of the rules that a row of cells shows, with the count of requests, the gate's slot and the desks beside it.
-use Rattle.std.specs.Prelude.{ℕ, min, List, map, length, take, Some, None, Option}
+use Rattle.std.specs.Prelude.{ℕ, min, false, List, map, length, take, Some, None, Option}
+use Rattle.std.specs.Bool.{then_some}
 use Rattle.std.specs.Option.{option_map}
 use Rattle.keys.specs.declared.key.Key as key
 use Rattle.tallies.specs.declared.tally.Tally as tally
@@ -7,7 +8,6 @@ use Rattle.requests.specs.declared.kind.Kind.{Kind}
 use Rattle.requests.specs.declared.kind.Kind.TheVariants as kind
 use Rattle.requests.specs.declared.request.Request.{Request}
 use Rattle.requests.specs.declared.request.Request.TheVariants.{Enter, Withdraw, LookUp, Count}
-use Rattle.requests.specs.declared.station.Station.{Station}
 use Rattle.rules.specs.declared.note.Note.TheVariants as note
 use Rattle.rules.specs.Queues.{numbered}
 use Rattle.rules.specs.States.{State, Place, most_requests}
@@ -25,7 +25,7 @@ use Rattle.cells.specs.Rosters.{roster}
 -- a cell as it is lent
 abbrev pub blank_cell : {F T : Type 0} → F → T → Cell F T
 blank_cell fields none = record {
-  station = None;
+  station = 0;
   kind = kind.LookUp;
   first = fields;
   second = fields;
@@ -33,7 +33,8 @@ blank_cell fields none = record {
   outcome = None;
   counted = none;
   waits = waits.Nowhere;
-  split = None;
+  made = false;
+  split = 0;
   left = slot.Empty;
   right = slot.Empty;
   tally = none;
@@ -44,10 +45,9 @@ abbrev pub side_slot : {F T : Type 0} → Side → Cell F T → Slot
 side_slot Left c = c.left
 side_slot Right c = c.right
 
--- the number of a station; 0 where there is none
-abbrev pub number_of : Option Station → ℕ
-number_of None = 0
-number_of (Some n) = n.number
+-- the number that names the split of a cell's place, once it is made
+abbrev pub split_of : {F T : Type 0} → Cell F T → Option ℕ
+split_of c = then_some c.made c.split
 
 module _ {K F T : Type 0} (k : key.Ghosts K F) (t : tally.Ghosts T K F) where
   -- the request of a cell
@@ -78,14 +78,14 @@ module _ {K F T : Type 0} (k : key.Ghosts K F) (t : tally.Ghosts T K F) where
   -- the place of a cell, once it is made
   abbrev pub place_shown : List (Cell F T) → Cell F T → Option (Place K T)
   place_shown cells c =
-      option_map (λ s. record { split = s; left = slot_shown cells c.left; right = slot_shown cells c.right; tally = c.tally }) (split_named cells c.split)
+      option_map (λ s. record { split = s; left = slot_shown cells c.left; right = slot_shown cells c.right; tally = c.tally }) (split_named cells (split_of c))
 
   -- the state shown: only the first cells, one for each request submitted, count
   abbrev pub state_shown : List (Cell F T) → ℕ → Slot → List Desk → State K T
   state_shown cells count gate desks = record {
     capacity = min most_requests (length cells);
     requests = map request_in (take count cells);
-    asker = λ i. elim (numbered (take count cells) i) [ None ↦ 0 | Some c ↦ number_of c.station ];
+    asker = λ i. elim (numbered (take count cells) i) [ None ↦ 0 | Some c ↦ c.station ];
     decision = λ i. elim (numbered (take count cells) i) [ None ↦ None | Some c ↦ c.decision ];
     answer = λ i. elim (numbered (take count cells) i) [ None ↦ None | Some c ↦ option_map answer_of c.outcome ];
     counted = λ i. elim (numbered (take count cells) i) [ None ↦ t.none | Some c ↦ c.counted ];

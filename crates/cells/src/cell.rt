@@ -1,17 +1,18 @@
 // One cell: request t and, once it is made, place t.
 ghost use Rattle.std.specs.Prelude.{◌≡◌};
-ghost use Rattle.cells.specs.Views.{blank_cell, side_slot};
+ghost use Rattle.cells.specs.Views.{blank_cell, side_slot, split_of};
 
 use super::outcome::Outcome;
 use super::side::Side;
 use super::slot::Slot;
 use super::waits::Waits;
-use requests::{Kind, Station};
+use requests::Kind;
 
 #[derive(Clone, Copy, PartialEq, Eq, Debug)]
 pub struct Cell<F, T> {
     // The request: who asked, for what, and how far it is.
-    pub station: Option<Station>,
+    // Kept: a number, 0 for no station, since a narrower type would ask more of who lends the cells.
+    pub station: u8,
     pub kind: Kind,
     pub first: F,
     pub second: F,
@@ -19,8 +20,10 @@ pub struct Cell<F, T> {
     pub outcome: Option<Outcome>,
     pub counted: T,
     pub waits: Waits,
-    // The place: once it is made, its split by the number of the request that entered that key; its slots and tally.
-    pub split: Option<u16>,
+    // The place: whether it is made, its split by the number of the request that entered that key, its slots and tally.
+    // Kept: the flag beside a number that is free until then, since an option would ask more of who lends the cells.
+    pub made: bool,
+    pub split: u16,
     pub left: Slot,
     pub right: Slot,
     pub tally: T,
@@ -32,7 +35,7 @@ impl<F: Copy, T: Copy> Cell<F, T> {
         ensures { result ≡ blank_cell fields tally }
     {
         Cell {
-            station: None,
+            station: 0,
             kind: Kind::LookUp,
             first: fields,
             second: fields,
@@ -40,11 +43,19 @@ impl<F: Copy, T: Copy> Cell<F, T> {
             outcome: None,
             counted: tally,
             waits: Waits::Nowhere,
-            split: None,
+            made: false,
+            split: 0,
             left: Slot::Empty,
             right: Slot::Empty,
             tally,
         }
+    }
+
+    // The number that names the place's split, once it is made.
+    pub fn place_split(&self) -> Option<u16>
+        ensures { result ≡ split_of self.now }
+    {
+        self.made.then_some(self.split)
     }
 
     // The place's slot on a side.

@@ -19,7 +19,7 @@ use Rattle.cells.specs.declared.desk.Desk.{Desk}
 use Rattle.cells.specs.declared.side.Side.TheVariants.{Left, Right}
 use Rattle.cells.specs.declared.slot.Slot.{Slot}
 use Rattle.cells.specs.declared.slot.Slot.TheVariants.{Empty, Key, Place}
-use Rattle.cells.specs.Views.{request_in, slot_shown, split_named, place_shown, state_shown}
+use Rattle.cells.specs.Views.{split_of, request_in, slot_shown, split_named, place_shown, state_shown}
 use Rattle.reading.specs.Walks.{rising_from, is_split, slot_in, first_named, visits, firsts_named, firsts_under}
 use Rattle.reading.specs.Promises.{Rising}
 use Rattle.cells.proofs.Numbers.{numbered_zero}
@@ -53,7 +53,7 @@ module _ {K F T : Type 0} (k : key.Ghosts K F) (t : tally.Ghosts T K F) (cells :
   abbrev place_of : Cell F T → K → rules.Place K T
   place_of c s = record { split = s; left = slot_shown k t live c.left; right = slot_shown k t live c.right; tally = c.tally }
 
-  module _ (p : ℕ) (c : Cell F T) (is : numbered live p ≡ Some c) (s : K) (split : split_named k t live c.split ≡ Some s) where
+  module _ (p : ℕ) (c : Cell F T) (is : numbered live p ≡ Some c) (s : K) (split : split_named k t live (split_of c) ≡ Some s) where
     place_is : shown.place p ≡ Some (place_of c s)
     place_is = ap (λ o. elim o as (λ _. Option (rules.Place K T)) [ None ↦ None | Some x ↦ place_shown k t live x ]) is ∙ ap (option_map (place_of c)) split
 
@@ -90,7 +90,7 @@ module _ {K F T : Type 0} (k : key.Ghosts K F) (t : tally.Ghosts T K F) (cells :
   keys_same zero (Place p) = refl
   keys_same (suc d) (Place p) = go (keys_same d) (numbered live p) refl
     where
-      both : Same d → (c : Cell F T) → numbered live p ≡ Some c → (s : K) → split_named k t live c.split ≡ Some s
+      both : Same d → (c : Cell F T) → numbered live p ≡ Some c → (s : K) → split_named k t live (split_of c) ≡ Some s
           → below d (Some (place_of c s)) ≡ walked d (rising_from p (length live) c.left) (rising_from p (length live) c.right)
       both ih c is s split =
           ap₂ (λ a b. a ++ b) (ih c.left) (ih c.right)
@@ -99,12 +99,12 @@ module _ {K F T : Type 0} (k : key.Ghosts K F) (t : tally.Ghosts T K F) (cells :
           ∙ ap₂ (walked d) (sym (left_as p c is s split)) (sym (right_as p c is s split))
 
       -- a split names a key where it is the number of a cell
-      by_number : Same d → (c : Cell F T) → numbered live p ≡ Some c → (i : ℕ) → c.split ≡ Some i → (m : Option (Cell F T)) → numbered live i ≡ m
+      by_number : Same d → (c : Cell F T) → numbered live p ≡ Some c → (i : ℕ) → split_of c ≡ Some i → (m : Option (Cell F T)) → numbered live i ≡ m
           → below d (option_map (place_of c) (option_map (λ x. k.made x.first) m)) ≡ walked d (cond (is_some m) (rising_from p (length live) c.left) Empty) (cond (is_some m) (rising_from p (length live) c.right) Empty)
       by_number ih c is i split None e = refl
       by_number ih c is i split (Some z) e = both ih c is (k.made z.first) (ap (split_named k t live) split ∙ ap (option_map (λ x. k.made x.first)) e)
 
-      by_split : Same d → (c : Cell F T) → numbered live p ≡ Some c → (o : Option ℕ) → c.split ≡ o
+      by_split : Same d → (c : Cell F T) → numbered live p ≡ Some c → (o : Option ℕ) → split_of c ≡ o
           → below d (option_map (place_of c) (split_named k t live o)) ≡ walked d (cond (is_split live o) (rising_from p (length live) c.left) Empty) (cond (is_split live o) (rising_from p (length live) c.right) Empty)
       by_split ih c is None e = refl
       by_split ih c is (Some i) e = by_number ih c is i e (numbered live i) refl
@@ -113,7 +113,7 @@ module _ {K F T : Type 0} (k : key.Ghosts K F) (t : tally.Ghosts T K F) (cells :
           → below d (elim o as (λ _. Option (rules.Place K T)) [ None ↦ None | Some c ↦ place_shown k t live c ])
           ≡ walked d (elim o as (λ _. Slot) [ None ↦ Empty | Some c ↦ slot_in live p Left c ]) (elim o as (λ _. Slot) [ None ↦ Empty | Some c ↦ slot_in live p Right c ])
       go ih None is = refl
-      go ih (Some c) is = by_split ih c is c.split refl
+      go ih (Some c) is = by_split ih c is (split_of c) refl
 
   -- all keys of the state are those that the walk from the gate names
   pub listed_same : keys_listed shown ≡ map k.made (firsts_under live gate)

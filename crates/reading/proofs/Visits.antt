@@ -7,7 +7,7 @@ use Rattle.cells.specs.declared.side.Side.{Side}
 use Rattle.cells.specs.declared.side.Side.TheVariants.{Left, Right}
 use Rattle.cells.specs.declared.slot.Slot.{Slot}
 use Rattle.cells.specs.declared.slot.Slot.TheVariants.{Empty, Key, Place}
-use Rattle.cells.specs.Views.{side_slot}
+use Rattle.cells.specs.Views.{side_slot, split_of}
 use Rattle.reading.specs.Walks.{rising_from, is_split, slot_in, slot_below, visits}
 
 -- a place that a slot leads to is above one number and at most another
@@ -31,7 +31,7 @@ within_from above' above most (Place p) h w = (omega (arith, w.0), w.1)
 
 module _ {F T : Type 0} (live : List (Cell F T)) where
   in_within : (p : ℕ) (side : Side) (c : Cell F T) → Within p (length live) (slot_in live p side c)
-  in_within p side c = cond_both (is_split live c.split) (rising_from p (length live) (side_slot side c)) Empty (Within p (length live)) (λ _. rising_within p (length live) (side_slot side c)) (λ _. tt)
+  in_within p side c = cond_both (is_split live (split_of c)) (rising_from p (length live) (side_slot side c)) Empty (Within p (length live)) (λ _. rising_within p (length live) (side_slot side c)) (λ _. tt)
 
   pub below-within : (p : ℕ) (side : Side) → Within p (length live) (slot_below live p side)
   below-within p side = go (numbered live p)

@@ -8,7 +8,7 @@ use Rattle.cells.specs.declared.side.Side.{Side}
 use Rattle.cells.specs.declared.side.Side.TheVariants.{Left, Right}
 use Rattle.cells.specs.declared.slot.Slot.{Slot}
 use Rattle.cells.specs.declared.slot.Slot.TheVariants.{Empty, Key, Place}
-use Rattle.cells.specs.Views.{side_slot}
+use Rattle.cells.specs.Views.{side_slot, split_of}
 
 -- a slot below a place, where numbers rise and pass no bound; any other way down is taken for empty
 abbrev pub rising_from : ℕ → ℕ → Slot → Slot
@@ -28,7 +28,7 @@ module _ {F T : Type 0} (live : List (Cell F T)) where
 
   -- the slot of a cell on one side, once its place is made
   abbrev pub slot_in : ℕ → Side → Cell F T → Slot
-  slot_in p side c = cond (is_split c.split) (rising_from p (length live) (side_slot side c)) Empty
+  slot_in p side c = cond (is_split (split_of c)) (rising_from p (length live) (side_slot side c)) Empty
 
   -- the slot of a place on one side
   abbrev pub slot_below : ℕ → Side → Slot

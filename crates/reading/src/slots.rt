@@ -26,7 +26,11 @@ pub fn slot_of<F: Copy, T: Copy>(live: &[Cell<F, T>], place: u16, side: Side) ->
     ensures { result ≡ slot_below live.now place side }
 {
     match numbered(live, place) {
-        Some(cell) if is_split(live, cell.split) => rising(cell.slot(side), place, live.len()),
+        Some(cell) if is_split(live, cell.place_split()) => rising(
+            cell.slot(side),
+            place,
+            live.len(),
+        ),
         _ => Slot::Empty,
     }
 }

@@ -1,14 +1,13 @@
 // What the board knows of each request.
 ghost use Rattle.std.specs.Prelude.{◌≡◌};
 ghost use Rattle.rules.specs.Queues.{numbered};
-ghost use Rattle.cells.specs.Views.{number_of};
 ghost use Rattle.board.specs.Of.{board_state};
 ghost use Rattle.board.specs.Cells.{waits_of, key_of};
 
 use super::Board;
 use cells::Waits;
 use keys::Key;
-use requests::{Answer, Kind, Request, Station};
+use requests::{Answer, Kind, Request};
 use tallies::Tally;
 
 impl<'a, K: Key, T: Tally<K>> Board<'a, K, T> {
@@ -26,11 +25,12 @@ impl<'a, K: Key, T: Tally<K>> Board<'a, K, T> {
         })
     }
 
-    // The station that submitted a request; none where none did.
-    pub fn asker(&self, number: u16) -> Option<Station>
-        ensures { number_of result ≡ (board_state K.Key T.Tally self.now).asker number }
+    // The station that submitted a request; 0 where none did.
+    // Kept: a number, since a cell's station is one.
+    pub fn asker(&self, number: u16) -> u8
+        ensures { result ≡ (board_state K.Key T.Tally self.now).asker number }
     {
-        self.find(number)?.station
+        self.find(number).map_or(0, |cell| cell.station)
     }
 
     // Whether the key of a request was present just before it, once that is decided.

@@ -25,7 +25,7 @@ impl<'a, K: Key, T: Tally<K>> Board<'a, K, T> {
     pub fn split(&self, number: u16) -> Option<K>
         ensures { result ≡ option_map (λ f. f.split) ((board_state K.Key T.Tally self.now).place number) }
     {
-        self.key(self.find(number)?.split?)
+        self.key(self.find(number)?.place_split()?)
     }
 
     // The slot of a place on a side.

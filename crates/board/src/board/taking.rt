@@ -14,7 +14,7 @@ use tallies::Tally;
 
 // The cell of a request just submitted.
 fn fresh<K: Key, T: Tally<K>>(station: Station, request: Request<K>) -> Cell<K::Fields, T>
-    ensures { result ≡ fresh_cell K.Key T.Tally station request }
+    ensures { result ≡ fresh_cell K.Key T.Tally station.number request }
 {
     let kind = request.kind();
     let (first, second) = match request {
@@ -22,7 +22,7 @@ fn fresh<K: Key, T: Tally<K>>(station: Station, request: Request<K>) -> Cell<K::
         Request::Count(lo, hi) => (lo, hi),
     };
     Cell {
-        station: Some(station),
+        station: station.number(),
         kind,
         second: second.fields(),
         waits: Waits::Between(0),

@@ -121,7 +121,8 @@ impl<'a, K: Key, T: Tally<K>> Board<'a, K, T> {
         self.change(
             number,
             |cell| Cell {
-                split: Some(high),
+                made: true,
+                split: high,
                 left: Slot::Key(low),
                 right: Slot::Key(high),
                 tally,

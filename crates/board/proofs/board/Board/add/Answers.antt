@@ -1,6 +1,7 @@
 -- The weight is joined to the cell's tally.
 use Rattle.std.proofs.Common.{◌≡◌, suc, ap, ◌∙◌, rules}
 use Rattle.rules.specs.Changes.{with_counted}
+use Rattle.cells.specs.Views.{split_of}
 use Rattle.cells.proofs.Singles.{cell_counted, shown-counted}
 use Rattle.board.proofs.Parts.{part_some}
 use Rattle.board.specs.Of.{board_state}
@@ -8,7 +9,7 @@ use Rattle.board.proofs.Boards.{still_named, changed_as, changed_given}
 use Rattle.board.proofs.board.Board.add.Goals as goal
 
 pub change-requires-clause-named : goal.change-requires-clause-named
-change-requires-clause-named g c = λ x y e p. let is : y ≡ cell_counted x (g.T.Tally.joined x.counted c.args.weight) = search rules in still_named g.K.Key g.T.Tally c.args.self.now c.args.number x y e (ap (λ v. v.left) is) (ap (λ v. v.right) is) (ap (λ v. v.split) is)
+change-requires-clause-named g c = λ x y e p. let is : y ≡ cell_counted x (g.T.Tally.joined x.counted c.args.weight) = search rules in still_named g.K.Key g.T.Tally c.args.self.now c.args.number x y e (ap (λ v. v.left) is) (ap (λ v. v.right) is) (ap (λ v. split_of v) is)
 
 pub returns : goal.returns
 returns g c =

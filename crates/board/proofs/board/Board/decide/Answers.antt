@@ -1,13 +1,14 @@
 -- The decision of the cell is written.
 use Rattle.std.proofs.Common.{◌≡◌, ap, rules}
 use Rattle.rules.specs.Changes.{with_decision}
+use Rattle.cells.specs.Views.{split_of}
 use Rattle.cells.proofs.Singles.{cell_decided, shown-decided}
 use Rattle.board.specs.Of.{board_state}
 use Rattle.board.proofs.Boards.{still_named, changed_as, changed_given}
 use Rattle.board.proofs.board.Board.decide.Goals as goal
 
 pub change-requires-clause-named : goal.change-requires-clause-named
-change-requires-clause-named g c = λ x y e p. let is : y ≡ cell_decided x c.args.present = search rules in still_named g.K.Key g.T.Tally c.args.self.now c.args.number x y e (ap (λ v. v.left) is) (ap (λ v. v.right) is) (ap (λ v. v.split) is)
+change-requires-clause-named g c = λ x y e p. let is : y ≡ cell_decided x c.args.present = search rules in still_named g.K.Key g.T.Tally c.args.self.now c.args.number x y e (ap (λ v. v.left) is) (ap (λ v. v.right) is) (ap (λ v. split_of v) is)
 
 pub returns : goal.returns
 returns g c =

@@ -5,6 +5,7 @@ use Rattle.rules.specs.Queues.{numbered}
 use Rattle.rules.specs.States.{State}
 use Rattle.cells.specs.Joins.{Joinable}
 use Rattle.cells.specs.Rosters.{waits_with}
+use Rattle.cells.specs.Views.{split_of}
 use Rattle.cells.proofs.Singles.{cell_waiting}
 use Rattle.cells.proofs.Joining.{shown_joins}
 use Rattle.board.specs.Cells.{live}
@@ -13,7 +14,7 @@ use Rattle.board.proofs.Boards.{still_named, changed_as, changed, not-given, is_
 use Rattle.board.proofs.board.Board.join.Goals as goal
 
 pub change-requires-clause-named : goal.change-requires-clause-named
-change-requires-clause-named g c = λ x y e p. let is : y ≡ cell_waiting x (waits_with x.waits c.args.place c.args.mode) = search rules in still_named g.K.Key g.T.Tally c.args.self.now c.args.number x y e (ap (λ v. v.left) is) (ap (λ v. v.right) is) (ap (λ v. v.split) is)
+change-requires-clause-named g c = λ x y e p. let is : y ≡ cell_waiting x (waits_with x.waits c.args.place c.args.mode) = search rules in still_named g.K.Key g.T.Tally c.args.self.now c.args.number x y e (ap (λ v. v.left) is) (ap (λ v. v.right) is) (ap (λ v. split_of v) is)
 
 pub returns : goal.returns
 returns g c =

@@ -1,11 +1,12 @@
 -- The weight is joined to the tally of the cell's place.
 use Rattle.std.proofs.Common.{◌≡◌, ap, rules}
+use Rattle.cells.specs.Views.{split_of}
 use Rattle.board.proofs.Boards.{still_named, changed_as}
 use Rattle.board.proofs.Places.{joined_cell, tally-put}
 use Rattle.board.proofs.board.Board.join_tally.Goals as goal
 
 pub change-requires-clause-named : goal.change-requires-clause-named
-change-requires-clause-named g c = λ x y e p. let is : y ≡ joined_cell g.K.Key g.T.Tally c.args.weight x = search rules in still_named g.K.Key g.T.Tally c.args.self.now c.args.number x y e (ap (λ v. v.left) is) (ap (λ v. v.right) is) (ap (λ v. v.split) is)
+change-requires-clause-named g c = λ x y e p. let is : y ≡ joined_cell g.K.Key g.T.Tally c.args.weight x = search rules in still_named g.K.Key g.T.Tally c.args.self.now c.args.number x y e (ap (λ v. v.left) is) (ap (λ v. v.right) is) (ap (λ v. split_of v) is)
 
 pub returns : goal.returns
 returns g c =

@@ -26,7 +26,7 @@ invariant_of-self g c =
     let b = c.args.self.now in
     let e = c.capacity.ensures in
     let room : b.count < length b.cells.now = omega arith in
-    let fresh : c.fresh.result ≡ fresh_cell g.K.Key g.T.Tally c.args.station c.args.request = c.fresh.ensures in
+    let fresh : c.fresh.result ≡ fresh_cell g.K.Key g.T.Tally c.args.station.number c.args.request = c.fresh.ensures in
     let own : CellNamed (suc b.count) c.fresh.result = subst (CellNamed (suc b.count)) (sym fresh) (tt, tt, tt) in
     let r = c.lay.ensures in
     let long : length c.lay.new.self.cells.now ≡ length b.cells.now = ap length r.cells ∙ length-set b.cells.now b.count c.fresh.result in record {
@@ -45,7 +45,7 @@ returns g c =
     let e = c.capacity.ensures in
     let room : b.count < length b.cells.now = omega arith in
     let known = c.args.station.known in
-    let fresh : c.fresh.result ≡ fresh_cell g.K.Key g.T.Tally c.args.station c.args.request = c.fresh.ensures in
+    let fresh : c.fresh.result ≡ fresh_cell g.K.Key g.T.Tally c.args.station.number c.args.request = c.fresh.ensures in
     let r = c.lay.ensures in
     let more : leb (min 1024 (length b.cells.now)) (given s) ≡ false = let h = given-count g.K.Key g.T.Tally b (omega arith) in let l = c.if-count-capacity.false in grind arith in
     let names = ∥∥₁_elim b.named (×_prop (slot-named_prop b.count b.gate) (cells-named_prop b.count (take b.count b.cells.now))) (λ v. v) in
@@ -55,7 +55,7 @@ returns g c =
           ∙ ap (λ v. state_shown g.K.Key g.T.Tally (set b.cells.now b.count c.fresh.result) (b.count + 1) v (set c.lay.new.self.desks c.desk_of.result (desk c.lay.new.self.desks))) r.gate
           ∙ ap (λ v. state_shown g.K.Key g.T.Tally (set b.cells.now b.count c.fresh.result) (b.count + 1) b.gate (set v c.desk_of.result (desk v))) r.desks
           ∙ ap (λ v. state_shown g.K.Key g.T.Tally (set b.cells.now b.count v) (b.count + 1) b.gate (set b.desks c.desk_of.result (desk b.desks))) fresh
-          ∙ ap (λ v. state_shown g.K.Key g.T.Tally (set b.cells.now b.count (fresh_cell g.K.Key g.T.Tally c.args.station c.args.request)) (b.count + 1) b.gate (set b.desks v (record { note = (get_or b.desks v (record { note = note.None; uncollected = None })).note; uncollected = Some (b.count + 1) }))) c.desk_of.ensures
+          ∙ ap (λ v. state_shown g.K.Key g.T.Tally (set b.cells.now b.count (fresh_cell g.K.Key g.T.Tally c.args.station.number c.args.request)) (b.count + 1) b.gate (set b.desks v (record { note = (get_or b.desks v (record { note = note.None; uncollected = None })).note; uncollected = Some (b.count + 1) }))) c.desk_of.ensures
           ∙ taken_state g.K.Key g.T.Tally b room g.met.K.Key.remade names.0 names.1 c.args.station c.args.request (record { note = note.None; uncollected = None }) (omega (arith, b.eight, known))
           ∙ ap (λ v. cond v s (taken s c.args.station.number c.args.request)) (sym more);
       row = ap length r.cells ∙ length-set b.cells.now b.count c.fresh.result;

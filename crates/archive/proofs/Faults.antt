@@ -1,5 +1,5 @@
 -- The first fault of checks that come one after the other. Assumes nothing.
-use Rattle.std.proofs.Common.{◌≡◌, ℕ, Bool, true, false, List, [], ◌∷◌, ◌++◌, Some, None, Option, sym, refl, ◌∙◌, arith}
+use Rattle.std.proofs.Common.{◌≡◌, Bool, true, false, List, [], ◌∷◌, ◌++◌, Some, None, Option, sym, refl, ◌∙◌}
 use Rattle.std.specs.Option.{option_or}
 use Rattle.archive.specs.declared.fault.Fault.{Fault}
 use Rattle.archive.specs.Checks.{Check, first_fault}

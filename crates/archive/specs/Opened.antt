@@ -1,13 +1,9 @@
 -- Which rows an accepted file has, and how they are handed out by number.
-use Rattle.std.specs.Prelude.{◌≡◌, ℕ, zero, suc, List, length, Some, None, Ok, Err, Option, Result}
+use Rattle.std.specs.Prelude.{◌≡◌, ℕ, zero, suc, ◌+◌, ◌*◌, cond, List, length, take, drop, Some, None, Ok, Err, Option, Result, nat_lt}
 use Rattle.std.specs.List.{slice_get}
 use Rattle.keys.specs.declared.refusal.Refusal.{Refusal}
 use Rattle.keys.specs.declared.refusal.Refusal.TheVariants.{NotGiven}
-use Rattle.keys.specs.declared.key.Key as key
-use Rattle.tallies.specs.declared.tally.Tally as tally
 use Rattle.requests.specs.declared.row.Row.{Row}
-use Rattle.stored.specs.declared.key.StoredKey as stored_key
-use Rattle.stored.specs.declared.tally.StoredTally as stored_tally
 use Rattle.stored.specs.Forms.{KeyForm, TallyForm}
 use Rattle.archive.specs.declared.opened.Archive.{Archive}
 use Rattle.archive.specs.declared.opened.Parts.{Parts}
@@ -15,9 +11,9 @@ use Rattle.archive.specs.Format.{request_row, answer_row}
 use Rattle.archive.specs.Theorems.{FileOf}
 
 -- these are the rows of the file
-pub record Opened {K T F : Type 0} {sk : stored_key.Ghosts K F} {k : key.Ghosts K F} {st : stored_tally.Ghosts T K F} {t : tally.Ghosts T K F} (keys : KeyForm K) (tallies : TallyForm T) (archive : Archive K T F sk k st t) (rows : List (Row K T)) : Type 0 where
+pub record Opened {K T : Type 0} (keys : KeyForm K) (tallies : TallyForm T) (archive : Archive K T) (rows : List (Row K T)) : Type 0 where
   pub file : FileOf keys tallies archive.bytes.now rows
-  pub counted : archive.layout.rows ≡ length rows
+  pub counted : archive.count ≡ length rows
 
 -- rows are numbered from 1
 abbrev pub row_numbered : {K T : Type 0} → List (Row K T) → ℕ → Option (Row K T)
@@ -37,3 +33,8 @@ row_bytes keys tallies row = (request_row keys row, answer_row tallies row)
 abbrev pub parts_bytes : Result Parts Refusal → Result (List ℕ × List ℕ) Refusal
 parts_bytes (Ok parts) = Ok (parts.request.now, parts.answer.now)
 parts_bytes (Err refusal) = Err refusal
+
+-- the part of that length, of parts that are one after the other from a start on
+abbrev pub part_of : ℕ → ℕ → ℕ → List ℕ → Option (List ℕ)
+part_of start size index bytes =
+    cond (nat_lt (length bytes) (start + index * size + size)) None (Some (take size (drop (start + index * size) bytes)))

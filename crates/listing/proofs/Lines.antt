@@ -1,5 +1,5 @@
 -- One line after another. Assumes nothing.
-use Rattle.std.proofs.Common.{◌≡◌, ℕ, zero, suc, ◌+◌, ◌-◌, ◌<◌, ◌≤◌, List, [], ◌∷◌, ◌++◌, length, drop, Some, Ok, Err, Result, IsOk, refl, sym, ap, ◌∙◌, ap₂, append_assoc, arith}
+use Rattle.std.proofs.Common.{◌≡◌, ℕ, zero, suc, ◌+◌, ◌-◌, ◌<◌, ◌≤◌, List, [], ◌∷◌, ◌++◌, length, drop, Some, Ok, Result, sym, ap, ◌∙◌, ap₂, append_assoc, arith}
 use Rattle.std.proofs.lemmas.List.{drop_all, append-nil}
 use Rattle.std.specs.List.{slice_get}
 use Rattle.keys.specs.declared.refusal.Refusal.{Refusal}
@@ -32,14 +32,3 @@ module _ {K T : Type 0} (key : K → List ℕ) (tally : T → List ℕ) where
       let none = ap (row_lines key tally (i + 1)) (drop_all i rows (omega arith)) in
       let whole : written ≡ row_lines key tally 1 rows = sym (append-nil written) ∙ ap (λ x. written ++ x) (sym none) ∙ inv in
       a ∙ ap₂ (λ x y. x ++ y) whole (l ∙ ap last_line e)
-
--- there is a row at a place before the end
-pub row_there : {K T : Type 0} (rows : List (Row K T)) (i : ℕ) (r : Result (Row K T) Refusal) → i < length rows → r ≡ row_given (row_numbered rows (i + 1)) → IsOk r
-row_there rows i r h e =
-    let back : i + 1 - 1 ≡ i = omega arith in
-    let found = nth_there rows i h in
-    ok r found.0 (e ∙ ap row_given (numbered rows (i + 1) (omega arith) ∙ ap (slice_get rows) back ∙ found.1))
-  where
-    ok : {X E : Type 0} (r : Result X E) (x : X) → r ≡ Ok x → IsOk r
-    ok (Ok y) x h = refl
-    ok (Err y) x h = cc

@@ -18,9 +18,9 @@ pub fn write_again<'a, K: StoredKey, T: StoredTally<K>>(
     ensures told { (rows : List (Row K T)) → Opened K.StoredKey.form T.StoredTally.form archive.now rows → result ≡ write_answer K.StoredKey.form T.StoredTally.form rows buffer.old }
     ensures left { (rows : List (Row K T)) → Opened K.StoredKey.form T.StoredTally.form archive.now rows → buffer.new ≡ write_after K.StoredKey.form T.StoredTally.form rows buffer.old }
     ensures kept { is_ok result ≡ false → buffer.new ≡ buffer.old }
-    ensures answer { length archive.now.bytes.now ≤ length buffer.old → result ≡ Ok (length archive.now.bytes.now) }
-    ensures after { length archive.now.bytes.now ≤ length buffer.old → buffer.new ≡ archive.now.bytes.now ++ drop (length archive.now.bytes.now) buffer.old }
-    ensures short { length buffer.old < length archive.now.bytes.now → result ≡ Err TooShort }
+    ensures answer { (rows : List (Row K T)) → Opened K.StoredKey.form T.StoredTally.form archive.now rows → length archive.now.bytes.now ≤ length buffer.old → result ≡ Ok (length archive.now.bytes.now) }
+    ensures after { (rows : List (Row K T)) → Opened K.StoredKey.form T.StoredTally.form archive.now rows → length archive.now.bytes.now ≤ length buffer.old → buffer.new ≡ archive.now.bytes.now ++ drop (length archive.now.bytes.now) buffer.old }
+    ensures short { (rows : List (Row K T)) → Opened K.StoredKey.form T.StoredTally.form archive.now rows → length buffer.old < length archive.now.bytes.now → result ≡ Err TooShort }
 {
     write::<K, T, Archive<'a, K, T>>(&*archive, buffer)
 }

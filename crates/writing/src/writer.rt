@@ -20,6 +20,8 @@ pub fn write<K: StoredKey, T: StoredTally<K>, S: Rows<K, T>>(
     ensures after { (rows : List (Row K T)) → S.Rows.has source.now rows → buffer.new ≡ write_after K.StoredKey.form T.StoredTally.form rows buffer.old }
     ensures kept { is_ok result ≡ false → buffer.new ≡ buffer.old }
 {
+    // Before the source is asked, whose count may take long: a kind that is too wide is refused whatever it has.
+    Layout::<K, T>::new(0)?;
     let layout = Layout::<K, T>::new(source.count())?;
     let answers = layout.answers_start();
     let end = layout.end();

@@ -8,6 +8,7 @@ ghost use Rattle.archive.specs.Opened.{Opened};
 use super::super::checking::check_file;
 use super::super::fault::Fault;
 use super::Archive;
+use std::marker::PhantomData;
 use stored::{StoredKey, StoredTally};
 
 impl<'a, K: StoredKey, T: StoredTally<K>> Archive<'a, K, T> {
@@ -19,15 +20,19 @@ impl<'a, K: StoredKey, T: StoredTally<K>> Archive<'a, K, T> {
         ensures written { WrittenIsRead K.StoredKey.form T.StoredTally.form }
         ensures read { ReadIsWritten K.StoredKey.form T.StoredTally.form }
     {
-        let layout = check_file(bytes)?;
-        Ok(Archive { bytes, layout })
+        let layout = check_file::<K, T>(bytes)?;
+        Ok(Archive {
+            bytes,
+            count: layout.rows(),
+            kinds: PhantomData,
+        })
     }
 
     // How many rows the file has.
     pub fn count(&self) -> usize
-        ensures rows { result ≡ self.now.layout.rows }
-        ensures opened { (rows : List (Row K T)) × Opened K.StoredKey.form T.StoredTally.form self.now rows }
+        ensures rows { result ≡ self.now.count }
+        ensures opened { fault_of K.StoredKey.form T.StoredTally.form self.now.bytes.now ≡ None → (rows : List (Row K T)) × Opened K.StoredKey.form T.StoredTally.form self.now rows }
     {
-        self.layout.rows()
+        self.count
     }
 }

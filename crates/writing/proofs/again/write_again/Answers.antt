@@ -1,7 +1,5 @@
 -- The rows' file is the archive.
 use Rattle.std.proofs.Common.{◌∙◌}
-use Rattle.archive.proofs.Laws.{KeyLaws, TallyLaws}
-use Rattle.archive.proofs.Opening.{rows_of}
 use Rattle.writing.proofs.FileAgain.{again_answer, again_after, again_short}
 use Rattle.writing.proofs.again.write_again.Goals as goal
 
@@ -9,15 +7,12 @@ pub returns : goal.returns
 returns g c =
     let keys = g.K.StoredKey.form in
     let tallies = g.T.StoredTally.form in
-    let key_laws : KeyLaws keys = let m = g.met.K.StoredKey in record { long = m.long; reread = m.reread; rewritten = m.rewritten } in
-    let tally-laws : TallyLaws tallies = let m = g.met.T.StoredTally in record { long = m.long; reread = m.reread; rewritten = m.rewritten } in
-    let a = c.args.archive.now in
-    let r = rows_of keys tallies key_laws tally-laws a.bytes.now a.layout.rows a.typed a.sound a.counted in
+    let bytes = c.args.archive.now.bytes.now in
     record {
       told = c.write.ensures.answer;
       left = c.write.ensures.after;
       kept = c.write.ensures.kept;
-      answer = λ room. c.write.ensures.answer r.rows (record { file = r.file; counted = r.counted }) ∙ again_answer keys tallies a.bytes.now c.args.buffer.now r.rows r.file room;
-      after = λ room. c.write.ensures.after r.rows (record { file = r.file; counted = r.counted }) ∙ again_after keys tallies a.bytes.now c.args.buffer.now r.rows r.file room;
-      short = λ few. c.write.ensures.answer r.rows (record { file = r.file; counted = r.counted }) ∙ again_short keys tallies a.bytes.now c.args.buffer.now r.rows r.file few;
+      answer = λ rows o room. c.write.ensures.answer rows o ∙ again_answer keys tallies bytes c.args.buffer.now rows o.file room;
+      after = λ rows o room. c.write.ensures.after rows o ∙ again_after keys tallies bytes c.args.buffer.now rows o.file room;
+      short = λ rows o few. c.write.ensures.answer rows o ∙ again_short keys tallies bytes c.args.buffer.now rows o.file few;
     }

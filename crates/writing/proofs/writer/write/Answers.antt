@@ -32,11 +32,22 @@ returns g c =
       kept = λ e. absurd (true≢false e);
     }
 
+pub returns-in_err-new : goal.returns-in_err-new
+returns-in_err-new g c =
+    let keys = g.K.StoredKey.form in
+    let tallies = g.T.StoredTally.form in
+    let given = c.from_residual.ensures in
+    record {
+      answer = λ rows h. let told = wide-answer keys tallies rows 0 c.in_err-new.field-0.0 c.args.buffer.now (omega arith) c.in_err-new.ensures in let front = told.0 in grind (arith, front, given);
+      after = λ rows h. (wide-answer keys tallies rows 0 c.in_err-new.field-0.0 c.args.buffer.now (omega arith) c.in_err-new.ensures).1;
+      kept = λ _. refl;
+    }
+
 pub returns-in_err-layout : goal.returns-in_err-layout
 returns-in_err-layout g c =
     let keys = g.K.StoredKey.form in
     let tallies = g.T.StoredTally.form in
-    let given = c.from_residual.ensures in
+    let given = c.from_residual-in_err-layout.ensures in
     record {
       answer = λ rows h. let told = wide-answer keys tallies rows c.count.result c.in_err-layout.field-0.0 c.args.buffer.now c.count.ensures.few c.in_err-layout.ensures in let front = told.0 in grind (arith, front, given);
       after = λ rows h. (wide-answer keys tallies rows c.count.result c.in_err-layout.field-0.0 c.args.buffer.now c.count.ensures.few c.in_err-layout.ensures).1;

@@ -25,7 +25,7 @@ returns g c =
     let r = rows_of keys tallies key_laws tally_laws bytes c.in_ok-layout.layout.rows (all_typed bytes (λ i. omega (arith, c.type_inv.bytes i))) known.0 known.1 in
     record {
       first = known.0;
-      accepted = (refl, (r.rows, record { file = r.file; counted = r.counted }));
+      accepted = (refl, (r.rows, record { file = r.file; counted = c.rows.ensures ∙ r.counted }));
       written = written_is_read keys tallies key_laws tally_laws;
       read = read_is_written keys tallies key_laws tally_laws;
     }
@@ -47,4 +47,9 @@ returns-in_err-layout g c =
 
 pub invariant_of-result : goal.invariant_of-result
 invariant_of-result g c =
-    record { typed = all_typed c.args.bytes.now (λ i. omega (arith, c.type_inv.bytes i)); sound = c.in_ok-layout.ensures.0; counted = c.in_ok-layout.ensures.1 }
+    let l = c.in_ok-layout.layout in
+    record {
+      few = omega (arith, l.few, c.rows.ensures);
+      typed = all_typed c.args.bytes.now (λ i. omega (arith, c.type_inv.bytes i));
+      counted = c.rows.ensures ∙ c.in_ok-layout.ensures.1;
+    }

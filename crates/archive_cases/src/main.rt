@@ -123,10 +123,8 @@ fn sections(rt: &HostRuntime, first: Section, second: Section) -> io::Result<()>
 
 // Kept as an `io::Result`: a failed write is told as the system tells it.
 fn main(rt: HostRuntime) -> io::Result<()> {
-    let (Ok(first), Ok(second)) = (
-        Route::new(10, 14, Class::M),
-        Route::new(9999, 1, Class::S),
-    ) else {
+    let (Ok(first), Ok(second)) = (Route::new(10, 14, Class::M), Route::new(9999, 1, Class::S))
+    else {
         return println!(rt; "no route");
     };
     few(&rt, first, second)?;
